@@ -3,7 +3,7 @@ use Rattle.std.specs.List.{list_all}
 use Rattle.std.specs.Prelude.{◌≡◌, ℕ, Bool, true, not, ◌==◌}
 use Rattle.kdl.specs.Words.{CommentsStay, DocumentLaidOut, IsDocument, LaidDocument, Text, defaults, document_prints, document_says, document_tree}
 use Rattle.kdl.specs.declared.document.KdlDocument.{KdlDocument}
-use Rattle.kdl_layout.specs.Config.{Settings}
+use Rattle.kdl_layout.specs.Config.{Keeping, Settings}
 use Rattle.kdl_layout.specs.OneLine.{IsLaidDocument}
 use Rattle.kdl_text.specs.Chars.{is_space}
 use Rattle.c_calls.specs.declared.laid_out.KdlLayout.{KdlLayout}
@@ -34,6 +34,10 @@ is_set n = not (n == 0)
 abbrev pub settings_of : KdlLayout → Text → Settings
 settings_of l i = record defaults { indent = i; no_comments = is_set l.no_comments }
 
+-- what stays inside nodes: comments, and spellings if these are kept
+abbrev pub keeping_of : KdlLayout → Keeping
+keeping_of l = record { spelling = is_set l.keep_spelling; comments = true }
+
 -- e is the document d after it is laid out with this indent
 abbrev pub IsLaidOutAs : KdlLayout → Text → KdlDocument → KdlDocument → Type 0
-IsLaidOutAs l i d e = IsLaidDocument (is_set l.keep_spelling) (is_set l.keep_one_line) l.blank_lines (settings_of l i) 0 (document_tree d) (document_tree e)
+IsLaidOutAs l i d e = IsLaidDocument (keeping_of l) (is_set l.keep_one_line) l.blank_lines (settings_of l i) 0 (document_tree d) (document_tree e)

@@ -65,7 +65,8 @@ pub struct KdlLayout {
     pub keep_one_line: u32,
 }
 
-/// Lays the document out as `KdlDocument::autoformat_layout` does, with the indent once for each level.
+/// Lays the document out as `KdlDocument::autoformat_layout` does, with the indent once for each level. Comments inside
+/// entries and types stay, unless comments are removed.
 ///
 /// Returns `FAULTS` if the indent has another character than the spaces of KDL, and leaves the document unchanged.
 /// Returns `OUT_OF_MEMORY` if an allocation fails. The data of the document is then unchanged, and some of it may be laid
@@ -98,6 +99,7 @@ pub fn lay_out(document: &mut KdlDocument, layout: &KdlLayout, indent: &str) -> 
         config,
         blank_lines: layout.blank_lines,
         keep_spelling: layout.keep_spelling != 0,
+        keep_inner_comments: true,
         keep_one_line: layout.keep_one_line != 0,
     };
     match document.autoformat_layout(&layout) {

@@ -49,6 +49,7 @@ fn configurations(rt: HostRuntime) {
         config: defaults,
         blank_lines: 0,
         keep_spelling: false,
+        keep_inner_comments: false,
         keep_one_line: false,
     };
     equal(&rt, &Layout::new(), &layout);
@@ -443,6 +444,29 @@ fn flagged_entries(rt: HostRuntime) {
     layout.keep_spelling = true;
     document.autoformat_layout(&layout).expect(&rt, "memory");
     prints(&rt, alloc, &document, "a   k=0x10 \"l\"=0x11\n");
+    drop(document);
+}
+
+/// Comments inside entries and types stay if the layout keeps them, also those around a value that was set.
+#[test]
+fn comments_inside_entries(rt: HostRuntime) {
+    let alloc = rt.alloc();
+    let mut document = read(&rt, alloc, "(/* a */\"t\")n k = /* b */0x10\n");
+    let mut other = document.clone().expect(&rt, "memory");
+    let mut layout = Layout::new();
+    other.autoformat_layout(&layout).expect(&rt, "memory");
+    prints(&rt, alloc, &other, "(t)n k=16\n");
+    drop(other);
+    layout.keep_inner_comments = true;
+    document.autoformat_layout(&layout).expect(&rt, "memory");
+    prints(&rt, alloc, &document, "(/* a */t)n k= /* b */16\n");
+    first_entry(&rt, &mut document).set_value(KdlValue::from(17));
+    layout.keep_spelling = true;
+    document.autoformat_layout(&layout).expect(&rt, "memory");
+    prints(&rt, alloc, &document, "(/* a */t)n k= /* b */17\n");
+    layout.config.no_comments = true;
+    document.autoformat_layout(&layout).expect(&rt, "memory");
+    prints(&rt, alloc, &document, "(t)n k=17\n");
     drop(document);
 }
 

@@ -37,6 +37,7 @@ pub fn formatted(
         config: FormatConfig::builder().indent(&indent).build(),
         blank_lines: settings.blank_lines,
         keep_spelling: !settings.respell,
+        keep_inner_comments: true,
         keep_one_line: !settings.expand,
     };
     document.autoformat_layout(&layout)?;

@@ -64,7 +64,7 @@ pub use Rattle.kdl_layout.proofs.Entries.{scalars}
 pub use Rattle.kdl_layout.proofs.Lacking.Alone.{before_alone}
 pub use Rattle.kdl_layout.proofs.Rewriting.BeforeNewlines.{a_newline}
 pub use Rattle.kdl_layout.specs.Blank.{at_start}
-pub use Rattle.kdl_layout.specs.Config.{IndentsBySpaces, Settings, defaults, indentation, settings, without_comments}
+pub use Rattle.kdl_layout.specs.Config.{IndentsBySpaces, Keeping, Settings, defaults, indentation, keeping, keeps_texts, nothing, settings, without_comments}
 pub use Rattle.kdl_layout.specs.Formatted.{DocumentKeepsNone, NodeKeepsNone, bare_node, bare_nodes, or_empty, or_empty_document}
 pub use Rattle.kdl_layout.specs.Internal.Names.{Keeps, KeepsName, with_spelling, with_spelling_if}
 pub use Rattle.kdl_layout.specs.Kept.{without_bom}

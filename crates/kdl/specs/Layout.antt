@@ -1,8 +1,8 @@
 -- What layout makes of nodes and documents in memory.
-pub use Rattle.kdl_layout.specs.Comments.{NodeCommentsStay}
+pub use Rattle.kdl_layout.specs.Comments.{NodeAllCommentsStay, NodeCommentsStay}
 pub use Rattle.kdl_layout.specs.Config.{IndentsBySpaces}
 use Rattle.kdl_layout.specs.Blank.{at_start}
-use Rattle.kdl_layout.specs.Config.{Settings, settings}
+use Rattle.kdl_layout.specs.Config.{Settings, keeping, settings}
 use Rattle.kdl_layout.specs.OneLine.{IsLaidDocument, IsLaidNode}
 use Rattle.kdl_layout.specs.declared.config.Layout.{Layout}
 use Rattle.kdl_layout.specs.Formatted.{DocumentKeepsNone, NodeKeepsNone, bare_document, bare_node, formatted_document, formatted_node}
@@ -41,13 +41,13 @@ NodeLaidOut s n m = IsFormattedNode s s.indent_level (node_tree n) (node_tree m)
 abbrev pub DocumentLaidOut : Settings → KdlDocument → KdlDocument → Type 0
 DocumentLaidOut s d e = IsFormattedDocument s s.indent_level (document_tree d) (document_tree e)
 
--- m is n, laid out so with blank lines, after nothing, with its spellings if the layout keeps them, and with blocks on one line
--- if the layout keeps these; for documents, e is d
+-- m is n, laid out so with blank lines, after nothing, with the spellings, the comments inside entries and types, and the
+-- blocks on one line that the layout keeps; for documents, e is d
 abbrev pub NodeSpaced : Layout → KdlNode → KdlNode → Type 0
-NodeSpaced l n m = IsLaidNode l.keep_spelling l.keep_one_line l.blank_lines (settings l.config) l.config.indent_level at_start (node_tree n) (node_tree m)
+NodeSpaced l n m = IsLaidNode (keeping l) l.keep_one_line l.blank_lines (settings l.config) l.config.indent_level at_start (node_tree n) (node_tree m)
 
 abbrev pub DocumentSpaced : Layout → KdlDocument → KdlDocument → Type 0
-DocumentSpaced l d e = IsLaidDocument l.keep_spelling l.keep_one_line l.blank_lines (settings l.config) l.config.indent_level (document_tree d) (document_tree e)
+DocumentSpaced l d e = IsLaidDocument (keeping l) l.keep_one_line l.blank_lines (settings l.config) l.config.indent_level (document_tree d) (document_tree e)
 
 -- what layout makes of them without comments
 abbrev pub plain_node : Settings → KdlNode → Node

@@ -3,13 +3,14 @@ use Rattle.std.specs.Prelude.{◌≡◌, false, true, OnOk, Result}
 use Rattle.kdl_grammar.specs.Data as data'
 use Rattle.kdl_grammar.specs.Grammar.{IsDocument}
 use Rattle.kdl_layout.specs.Canonical.{Canonical, CanonicalNode, canonical, canonical_node}
-use Rattle.kdl_layout.specs.Comments.{CommentsStay}
-use Rattle.kdl_layout.specs.Config.{IsPlain, Settings}
+use Rattle.kdl_layout.specs.Comments.{AllCommentsStay, CommentsStay}
+use Rattle.kdl_layout.specs.Config.{IndentsBySpaces, IsPlain, Settings, keeping, keeps_texts, settings}
 use Rattle.kdl_layout.specs.Formatted.{DocumentLevelsFit, NodeLevelsFit}
 use Rattle.kdl.specs.Finds.{FindsSame, NodeFindsSame}
-use Rattle.kdl.specs.Layout.{DocumentKeepsNoForm, DocumentKeepsReading, DocumentLaidOut, NodeCommentsStay, NodeKeepsNoForm, NodeKeepsReading, NodeLaidOut, document_bare, node_bare, plain_document, plain_node}
+use Rattle.kdl.specs.Layout.{DocumentKeepsNoForm, DocumentKeepsReading, DocumentLaidOut, NodeAllCommentsStay, NodeCommentsStay, NodeKeepsNoForm, NodeKeepsReading, NodeLaidOut, document_bare, node_bare, plain_document, plain_node}
 use Rattle.kdl.specs.ReadsBack.{DocumentReadsBack, ReadsAs}
 use Rattle.kdl.specs.Tree.{document_prints, document_says, document_tree, node_prints, node_says, node_tree}
+use Rattle.kdl_layout.specs.declared.config.Layout.{Layout}
 use Rattle.kdl.specs.declared.document.KdlDocument.{KdlDocument}
 use Rattle.kdl.specs.declared.node.KdlNode.{KdlNode}
 
@@ -35,13 +36,24 @@ pub record RereadsDocument {A E : Type 0} (s : Settings) (d e : KdlDocument) (r 
   -- the canonical text is a document with these data, and no other
   pub reads : OnOk r (Canonical s.indent s.indent_level (document_says d))
 
--- what layout makes of a document if it keeps no blank lines, no spellings and no blocks on one line
+-- what layout makes of a document if it keeps no blank lines, no spellings, no comments inside, and no blocks on one line
 pub record FormatsDocument {A E : Type 0} (s : Settings) (d e : KdlDocument) (r : Result A E) : Type 0 where
   -- with comments
   pub formatted : OnOk r (DocumentLaidOut s d e)
   -- without comments: the document, and its text
   pub plain : s.no_comments ≡ true → OnOk r (document_tree e ≡ plain_document s d)
   pub prints : IsPlain s → OnOk r (DocumentKeepsNoForm d → document_prints e ≡ canonical s.indent s.indent_level (document_says d))
+
+-- if the layout keeps comments inside entries and types, or spellings, and removes none, all comments stay
+abbrev pub KeepsComments : {A E : Type 0} → Layout → KdlDocument → KdlDocument → Result A E → Type 0
+KeepsComments l d e r =
+    keeps_texts (keeping l) ≡ true → l.config.no_comments ≡ false → IndentsBySpaces (settings l.config) → l.config.entry_autoformate_keep ≡ false
+    → OnOk r (DocumentKeepsNoForm d → AllCommentsStay (document_tree d) (document_prints e))
+
+abbrev pub NodeKeepsComments : {A E : Type 0} → Layout → KdlNode → KdlNode → Result A E → Type 0
+NodeKeepsComments l n m r =
+    keeps_texts (keeping l) ≡ true → l.config.no_comments ≡ false → IndentsBySpaces (settings l.config) → l.config.entry_autoformate_keep ≡ false
+    → OnOk r (NodeKeepsNoForm n → NodeAllCommentsStay (node_tree n) (node_prints m))
 
 -- the same of a node
 pub record KeepsNode {A E : Type 0} (s : Settings) (n m : KdlNode) (r : Result A E) : Type 0 where

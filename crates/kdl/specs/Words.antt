@@ -78,7 +78,7 @@ pub use Rattle.kdl_parts.specs.Edits.{GoesUnder, HasArgumentAt, HasRoomAt, IsIns
 -- What is printed after entries or nodes are replaced.
 pub use Rattle.kdl.specs.EditLaw.{EntriesExchanged, EntryExchanged, FormedPiece, NodeExchanged, NodesExchanged, PrintsAtPlace, PrintsInstead}
 -- Layout: its settings.
-pub use Rattle.kdl_layout.specs.Config.{IsPlain, Settings, defaults, settings, settings_so_far, without_comments}
+pub use Rattle.kdl_layout.specs.Config.{IsPlain, Keeping, Settings, defaults, keeping, keeps_texts, nothing, settings, settings_so_far, without_comments}
 pub use Rattle.kdl.specs.Layout.{IndentsBySpaces}
 -- What it requires: no entry that keeps its form, levels that a machine can count.
 pub use Rattle.kdl_layout.specs.Formatted.{DocumentKeepsNone, DocumentLevelsFit, NodeKeepsNone, NodeLevelsFit}
@@ -91,10 +91,10 @@ pub use Rattle.kdl_layout.specs.Respelled.{IsSpelledDocument, IsSpelledNode}
 pub use Rattle.kdl_layout.specs.Spaced.{IsSpacedDocument, IsSpacedNode}
 pub use Rattle.kdl_layout.specs.Formatted.{formatted_document}
 pub use Rattle.kdl.specs.Layout.{document_bare, node_bare, plain_document, plain_node}
-pub use Rattle.kdl_layout.specs.Comments.{CommentsStay}
-pub use Rattle.kdl.specs.Layout.{NodeCommentsStay}
+pub use Rattle.kdl_layout.specs.Comments.{AllCommentsStay, CommentsStay}
+pub use Rattle.kdl.specs.Layout.{NodeAllCommentsStay, NodeCommentsStay}
 -- What the calls that lay out promise.
-pub use Rattle.kdl.specs.LaysOut.{FormatsDocument, FormatsNode, KeepsDocument, KeepsNode, RereadsDocument, RereadsNode}
+pub use Rattle.kdl.specs.LaysOut.{FormatsDocument, FormatsNode, KeepsComments, KeepsDocument, KeepsNode, NodeKeepsComments, RereadsDocument, RereadsNode}
 -- The canonical text of a document's data.
 pub use Rattle.kdl_layout.specs.Canonical.{Canonical, CanonicalNode, canonical, canonical_node, canonical_text}
 -- What look-ups find after an edit.

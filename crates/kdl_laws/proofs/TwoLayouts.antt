@@ -3,7 +3,7 @@ use Rattle.kdl_laws.proofs.Common.{◌≡◌, ℕ, Bool, true, false, sym, ap, �
 use Rattle.kdl_grammar.specs.Data as data'
 use Rattle.kdl_layout.specs.Blank.{at_start}
 use Rattle.kdl_layout.specs.Canonical.{canonical, Canonical}
-use Rattle.kdl_layout.specs.Config.{IndentsBySpaces}
+use Rattle.kdl_layout.specs.Config.{IndentsBySpaces, Keeping, nothing}
 use Rattle.kdl_layout.specs.Respelled.{IsSpelledDocument, IsSpelledNode}
 use Rattle.kdl_layout.specs.Spaced.{IsSpacedDocument, IsSpacedNode}
 use Rattle.kdl_layout.specs.OneLine.{IsLaidNode}
@@ -36,34 +36,34 @@ pub node_again : (s : Settings) (level : ℕ) (n x y : Node) → IndentsBySpaces
 node_again s level n x y ok keep none f g = node_stays 0 s level ok keep n x y f none g
 
 -- the same with blank lines, and with blocks on one line
-pub spaced_again : (spelling line : Bool) (number : ℕ) (s : Settings) (level : ℕ) (d x y : Document) → IndentsBySpaces s → s.entry_autoformate_keep ≡ false → DocumentKeepsNone d → IsLaidDocument spelling line number s level d x → IsLaidDocument spelling line number s level x y
+pub spaced_again : (spelling : Keeping) (line : Bool) (number : ℕ) (s : Settings) (level : ℕ) (d x y : Document) → IndentsBySpaces s → s.entry_autoformate_keep ≡ false → DocumentKeepsNone d → IsLaidDocument spelling line number s level d x → IsLaidDocument spelling line number s level x y
     → y ≡ x
 spaced_again spelling line number s level d x y ok flag bare f g = again.document_stays number s ok line flag spelling level d x y f bare g
 
-pub spaced_node_again : (spelling line : Bool) (number : ℕ) (s : Settings) (level : ℕ) (n x y : Node) → IndentsBySpaces s → s.entry_autoformate_keep ≡ false → NodeKeepsNone n → IsLaidNode spelling line number s level at_start n x → IsLaidNode spelling line number s level at_start x y
+pub spaced_node_again : (spelling : Keeping) (line : Bool) (number : ℕ) (s : Settings) (level : ℕ) (n x y : Node) → IndentsBySpaces s → s.entry_autoformate_keep ≡ false → NodeKeepsNone n → IsLaidNode spelling line number s level at_start n x → IsLaidNode spelling line number s level at_start x y
     → y ≡ x
 spaced_node_again spelling line number s level n x y ok flag bare f g = again.node_stays number s ok line flag spelling level n x y f bare g
 
-pub spaced_twice : {A E : Type 0} (r : Result A E) (spelling line : Bool) (number : ℕ) (s : Settings) (level : ℕ) (d x y : Document) → list_all is_space s.indent ≡ true → s.entry_autoformate_keep ≡ false → DocumentKeepsNone d
+pub spaced_twice : {A E : Type 0} (r : Result A E) (spelling : Keeping) (line : Bool) (number : ℕ) (s : Settings) (level : ℕ) (d x y : Document) → list_all is_space s.indent ≡ true → s.entry_autoformate_keep ≡ false → DocumentKeepsNone d
     → IsLaidDocument spelling line number s level d x → IfOk r (λ _. IsLaidDocument spelling line number s level x y) → IfOk r (λ _. IsLaidDocument spelling line number s level d y)
 spaced_twice (Ok v) spelling line number s level d x y ok flag bare f g = subst (λ (z : Document). IsLaidDocument spelling line number s level d z) (sym (again.document_stays number s ok line flag spelling level d x y f bare g)) f
 spaced_twice (Err v) spelling line number s level d x y ok flag bare f g = tt
 
 -- no block on one line
-pub lined_document : (spelling : Bool) (number : ℕ) (s : Settings) (level : ℕ) (d x : Document) → IsLaidDocument spelling false number s level d x ↔ IsSpelledDocument spelling number s level d x
+pub lined_document : (spelling : Keeping) (number : ℕ) (s : Settings) (level : ℕ) (d x : Document) → IsLaidDocument spelling false number s level d x ↔ IsSpelledDocument spelling number s level d x
 lined_document spelling number s level d x =
     (λ f. subst (λ (y : Document). IsSpelledDocument spelling number s level d y) (sym (f.2 ∙ document_off d f.0)) f.1, λ f. (x, f, sym (document_off d x)))
 
-pub lined_node : (spelling : Bool) (number : ℕ) (s : Settings) (level : ℕ) (n x : Node) → IsLaidNode spelling false number s level at_start n x ↔ IsSpelledNode spelling number s level at_start n x
+pub lined_node : (spelling : Keeping) (number : ℕ) (s : Settings) (level : ℕ) (n x : Node) → IsLaidNode spelling false number s level at_start n x ↔ IsSpelledNode spelling number s level at_start n x
 lined_node spelling number s level n x =
     (λ f. subst (λ (y : Node). IsSpelledNode spelling number s level at_start n y) (sym (f.2 ∙ node_off n f.0)) f.1, λ f. (x, f, sym (node_off n x)))
 
--- no spellings
-pub respelled_document : (number : ℕ) (s : Settings) (level : ℕ) (d x : Document) → IsSpelledDocument false number s level d x ↔ IsSpacedDocument number s level d x
+-- neither spellings nor comments inside entries
+pub respelled_document : (number : ℕ) (s : Settings) (level : ℕ) (d x : Document) → IsSpelledDocument nothing number s level d x ↔ IsSpacedDocument number s level d x
 respelled_document number s level d x =
     (λ h. subst (λ (z : Document). IsSpacedDocument number s level d z) (sym (off.same_document s d h.0 x h.2)) h.1, λ f. (x, f, off.document_itself number s level d x f))
 
-pub respelled_node : (number : ℕ) (s : Settings) (level : ℕ) (n x : Node) → IsSpelledNode false number s level at_start n x ↔ IsSpacedNode number s level at_start n x
+pub respelled_node : (number : ℕ) (s : Settings) (level : ℕ) (n x : Node) → IsSpelledNode nothing number s level at_start n x ↔ IsSpacedNode number s level at_start n x
 respelled_node number s level n x =
     (λ h. subst (λ (z : Node). IsSpacedNode number s level at_start n z) (sym (off.same_node s n h.0 x h.2)) h.1, λ f. (x, f, off.node_itself number s level at_start n x f))
 

@@ -5,7 +5,7 @@ use Rattle.kdl_grammar.specs.Laid.{LaidDocument}
 use Rattle.kdl_grammar.specs.Print.{print_document}
 use Rattle.kdl_grammar.specs.Tree.{Document}
 use Rattle.kdl_layout.specs.Comments.{CommentsStay}
-use Rattle.kdl_layout.specs.Config.{defaults}
+use Rattle.kdl_layout.specs.Config.{Keeping, defaults}
 use Rattle.kdl_layout.specs.OneLine.{IsLaidDocument}
 use Rattle.kdl_layout.specs.WithComments.{IsFormattedDocument}
 
@@ -19,13 +19,13 @@ pub record IsLaidOut (text out : Text) : Type 0 where
   pub comments : CommentsStay before out
   pub again : (y : Document) → IsFormattedDocument defaults 0 after y → y ≡ after
 
--- the same if blank lines are kept, at most a number of them between two nodes or comments, spellings are kept if
--- `spelling` is true, and blocks stay on one line if `line` is true
-pub record IsSpacedOut (spelling line : Bool) (number : ℕ) (text out : Text) : Type 0 where
+-- the same if blank lines are kept, at most a number of them between two nodes or comments, and what `keep` keeps inside
+-- nodes, and blocks stay on one line if `line` is true
+pub record IsSpacedOut (keep : Keeping) (line : Bool) (number : ℕ) (text out : Text) : Type 0 where
   pub before : Document
   pub after : Document
   pub laid : LaidDocument before text
-  pub formatted : IsLaidDocument spelling line number defaults 0 before after
+  pub formatted : IsLaidDocument keep line number defaults 0 before after
   pub prints : out ≡ print_document after 0
   pub comments : CommentsStay before out
-  pub again : (y : Document) → IsLaidDocument spelling line number defaults 0 after y → y ≡ after
+  pub again : (y : Document) → IsLaidDocument keep line number defaults 0 after y → y ≡ after

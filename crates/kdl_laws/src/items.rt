@@ -17,7 +17,7 @@ ghost use Rattle.kdl_laws.specs.Leading.{DocumentLeading};
 ghost use Rattle.kdl_text.specs.Chars.{Text, is_space};
 ghost use Rattle.kdl_text.specs.Trivia.{LineComment};
 ghost use Rattle.std.specs.List.{list_all};
-ghost use Rattle.std.specs.Prelude.{◌≡◌, ◌≢◌, ◌↔◌, ◌++◌, ◌∷◌, ℕ, [], List, false, map, true};
+ghost use Rattle.std.specs.Prelude.{◌≡◌, ◌≢◌, ◌↔◌, ◌++◌, ◌∷◌, ℕ, [], Bool, List, false, map, true};
 
 /// A text has a list of items exactly if it may be in its place: as a gap, before or after a block, before an entry, or
 /// before the nodes of a document. A terminator has an item exactly if it is a line comment.
@@ -35,20 +35,23 @@ pub fn place_has_items()
         → (is ≢ []) ↔ LineComment t [] }
 {}
 
-/// Each document and each node has a list of items, which is the premise of `CommentsStay` and of `NodeCommentsStay`.
+/// Each document and each node has a list of items, which is the premise of `CommentsStay` and `AllCommentsStay`, and of
+/// those of nodes.
 pub fn has_list()
-    ensures document { (d : Document) → ((is : List Item) → DocumentItems d is → ⊥) → ⊥ }
-    ensures node { (n : Node) → ((is : List Item) → NodeItems n is → ⊥) → ⊥ }
+    ensures document { (inner : Bool) (d : Document)
+        → ((is : List Item) → DocumentItems inner d is → ⊥) → ⊥ }
+    ensures node { (inner : Bool) (n : Node)
+        → ((is : List Item) → NodeItems inner n is → ⊥) → ⊥ }
 {}
 
 /// If layout keeps comments and no entry is flagged, its result has such a list.
 pub fn laid_out_has_list()
     ensures document { (s : Settings) (level : ℕ) (d x : Document)
         → s.entry_autoformate_keep ≡ false → s.no_comments ≡ false → DocumentKeepsNone d
-        → IsFormattedDocument s level d x → (is : List Item) × DocumentItems d is }
+        → IsFormattedDocument s level d x → (is : List Item) × DocumentItems false d is }
     ensures node { (s : Settings) (level : ℕ) (n x : Node)
         → s.entry_autoformate_keep ≡ false → s.no_comments ≡ false → NodeKeepsNone n
-        → IsFormattedNode s level n x → (is : List Item) × NodeItems n is }
+        → IsFormattedNode s level n x → (is : List Item) × NodeItems false n is }
 {}
 
 /// A gap, a text in a place of a node, a node, and a document have at most one list of items.
@@ -57,9 +60,10 @@ pub fn one_list()
     ensures gap { (s : Text) (is js : List Item) → GapItems s is → GapItems s js → is ≡ js }
     ensures place { (p : Place) (s : Text) (is js : List Item) → PlaceItems p s is
         → PlaceItems p s js → is ≡ js }
-    ensures node { (n : Node) (is js : List Item) → NodeItems n is → NodeItems n js → is ≡ js }
-    ensures document { (d : Document) (is js : List Item) → DocumentItems d is → DocumentItems d js
-        → is ≡ js }
+    ensures node { (inner : Bool) (n : Node) (is js : List Item) → NodeItems inner n is
+        → NodeItems inner n js → is ≡ js }
+    ensures document { (inner : Bool) (d : Document) (is js : List Item)
+        → DocumentItems inner d is → DocumentItems inner d js → is ≡ js }
 {}
 
 /// The items of a gap, each written on its own line, make a gap of the same items, each as it is on its line.

@@ -5,7 +5,7 @@ ghost use Rattle.kdl.specs.Tree.{document_prints, document_tree, node_tree};
 ghost use Rattle.kdl.specs.declared.document.KdlDocument.{KdlDocument};
 ghost use Rattle.kdl_layout.specs.Blank.{at_start};
 ghost use Rattle.kdl_layout.specs.Comments.{CommentsStay};
-ghost use Rattle.kdl_layout.specs.Config.{IndentsBySpaces, Settings, defaults, settings};
+ghost use Rattle.kdl_layout.specs.Config.{IndentsBySpaces, Keeping, Settings, defaults, keeping, nothing, settings};
 ghost use Rattle.kdl_layout.specs.Formatted.{DocumentKeepsNone, NodeKeepsNone};
 ghost use Rattle.kdl_layout.specs.Respelled.{IsSpelledDocument, IsSpelledNode};
 ghost use Rattle.kdl_layout.specs.OneLine.{IsLaidDocument, IsLaidNode};
@@ -99,38 +99,40 @@ pub fn spaced_twice(document: &mut KdlDocument, layout: &Layout) -> Result<(), A
     document.autoformat_layout(layout)
 }
 
-/// A second layout with the same fields changes nothing, whether spellings are kept and blocks stay on one line or not:
+/// A second layout with the same fields changes nothing, whatever is kept inside nodes, and whether blocks stay on one
+/// line or not:
 /// if the indent is of spaces and no entry is flagged, layout of its own result is that result.
 pub fn second_spaced_layout()
-    ensures document { (spelling line : Bool) (number : ℕ) (s : Settings) (level : ℕ)
+    ensures document { (keep : Keeping) (line : Bool) (number : ℕ) (s : Settings) (level : ℕ)
         → (d x y : Document) → IndentsBySpaces s
         → s.entry_autoformate_keep ≡ false → DocumentKeepsNone d
-        → IsLaidDocument spelling line number s level d x
-        → IsLaidDocument spelling line number s level x y → y ≡ x }
-    ensures node { (spelling line : Bool) (number : ℕ) (s : Settings) (level : ℕ)
+        → IsLaidDocument keep line number s level d x
+        → IsLaidDocument keep line number s level x y → y ≡ x }
+    ensures node { (keep : Keeping) (line : Bool) (number : ℕ) (s : Settings) (level : ℕ)
         → (n x y : Node) → IndentsBySpaces s
         → s.entry_autoformate_keep ≡ false → NodeKeepsNone n
-        → IsLaidNode spelling line number s level at_start n x
-        → IsLaidNode spelling line number s level at_start x y → y ≡ x }
+        → IsLaidNode keep line number s level at_start n x
+        → IsLaidNode keep line number s level at_start x y → y ≡ x }
 {}
 
-/// If no block is to stay on one line, layout has the result of layout with blank lines and spellings alone.
+/// If no block is to stay on one line, layout has the result of layout with blank lines and what is kept inside nodes.
 pub fn layout_without_one_line()
-    ensures document { (spelling : Bool) (number : ℕ) (s : Settings) (level : ℕ) (d x : Document)
-        → IsLaidDocument spelling false number s level d x
-        ↔ IsSpelledDocument spelling number s level d x }
-    ensures node { (spelling : Bool) (number : ℕ) (s : Settings) (level : ℕ) (n x : Node)
-        → IsLaidNode spelling false number s level at_start n x
-        ↔ IsSpelledNode spelling number s level at_start n x }
+    ensures document { (keep : Keeping) (number : ℕ) (s : Settings) (level : ℕ) (d x : Document)
+        → IsLaidDocument keep false number s level d x
+        ↔ IsSpelledDocument keep number s level d x }
+    ensures node { (keep : Keeping) (number : ℕ) (s : Settings) (level : ℕ) (n x : Node)
+        → IsLaidNode keep false number s level at_start n x
+        ↔ IsSpelledNode keep number s level at_start n x }
 {}
 
-/// If no spellings are kept either, layout has the result of layout with blank lines alone.
+/// If neither spellings nor comments inside entries and types are kept, layout has the result of layout with blank lines
+/// alone.
 #[tactic(auto, using(crate::proofs::TwoLayouts::respelled_document, crate::proofs::TwoLayouts::respelled_node))]
 pub fn layout_without_spellings()
     ensures document { (number : ℕ) (s : Settings) (level : ℕ) (d x : Document)
-        → IsSpelledDocument false number s level d x ↔ IsSpacedDocument number s level d x }
+        → IsSpelledDocument nothing number s level d x ↔ IsSpacedDocument number s level d x }
     ensures node { (number : ℕ) (s : Settings) (level : ℕ) (n x : Node)
-        → IsSpelledNode false number s level at_start n x
+        → IsSpelledNode nothing number s level at_start n x
         ↔ IsSpacedNode number s level at_start n x }
 {}
 
@@ -152,7 +154,7 @@ pub fn texts_are_laid_out()
         → string_bytes s ≡ encode_utf8_all (document_prints e) → IsLaidOut text (text_of s) }
 {}
 
-/// The same if blank lines, spellings or blocks on one line are kept.
+/// The same if blank lines, spellings, comments inside entries and types, or blocks on one line are kept.
 #[tactic(auto, using(crate::proofs::TextLaidOut::text_spaced_out))]
 pub fn texts_are_spaced_out()
     ensures { (text : Text) (l : Layout) (d e : KdlDocument) (s : String Global)
@@ -160,7 +162,7 @@ pub fn texts_are_spaced_out()
         → LaidDocument (document_tree d) text → DocumentKeepsNoForm d
         → DocumentSpaced l d e → CommentsStay (document_tree d) (document_prints e)
         → string_bytes s ≡ encode_utf8_all (document_prints e)
-        → IsSpacedOut l.keep_spelling l.keep_one_line l.blank_lines text (text_of s) }
+        → IsSpacedOut (keeping l) l.keep_one_line l.blank_lines text (text_of s) }
 {}
 
 /// If no entry is flagged, each entry reads back in the form that it keeps, as clause `reads_back` of layout requires.

@@ -34,10 +34,11 @@ pub use Rattle.kdl_grammar.specs.Tree.{Children, Document, DocumentFormat, Head,
 pub use Rattle.kdl_layout.specs.Blank.{at_start, blank_lines, empty_lines, from_item, last_in, last_of, newlines, one_if, past_items, past_node, read, spaced_lines}
 pub use Rattle.kdl_layout.specs.Canonical.{canonical, canonical_children, canonical_entries, canonical_key, canonical_node, canonical_nodes, canonical_type}
 pub use Rattle.kdl_layout.specs.Comments.{ChildrenItems, DocumentItems, EntriesItems, NodeItems, NodesItems, of_document, of_node}
-pub use Rattle.kdl_layout.specs.Config.{Settings, indentation, settings}
+pub use Rattle.kdl_layout.specs.Config.{Keeping, Settings, indentation, keeping, keeps_texts, settings}
 pub use Rattle.kdl_layout.specs.Formatted.{ChildrenKeepNone, DocumentKeepsNone, EntriesKeepNone, NodeKeepsNone, NodesKeepNone, formatted_children, formatted_document, formatted_entry, formatted_head, formatted_node, formatted_nodes, in_braces, newline_if_none, or_empty, or_empty_document, with_keep_if}
 pub use Rattle.kdl_layout.specs.Internal.Lacking.{EndsNode, GapRead, LineEnds, OnlySpaces, PlaceThrough, Spaces, Through, left, letter}
-pub use Rattle.kdl_layout.specs.Internal.Names.{HasSpelling, Keeps, autoformatted_but, emptied, without_value}
+pub use Rattle.kdl_layout.specs.Internal.KeptTexts.{plain_format}
+pub use Rattle.kdl_layout.specs.Internal.Names.{HasSpelling, Keeps, KeepsValue, autoformatted_but, emptied, without_value}
 pub use Rattle.kdl_layout.specs.Internal.Passed.{AnswersDroppedPart, EndsAt, EndsNowhere, next_place, takes}
 pub use Rattle.kdl_layout.specs.Internal.Passing.{End, EndsWord, Goal, NodePasses, PartPasses, at_end, ended, follows_word, for_node, for_part, goes, goes_on, moved, of_spaces, over, returned, returns, slashdash_in, slashdash_phase, stops, word}
 pub use Rattle.kdl_layout.specs.Internal.Reading.{Adding, Cut, Leaves, Run, Starts, added, adding, found, held, item_view, items_view, place_view}
@@ -48,7 +49,7 @@ pub use Rattle.kdl_layout.specs.Lacks.{AreNodeSpaces, InPlace}
 pub use Rattle.kdl_layout.specs.OneLine.{IsLaidDocument, IsLaidNode, braces_in_line, braces_on_line, end_on_line, entry_on_line, form_on_line, formats_in_line, head_on_line, in_one_line, is_end, is_on_one_line, line_on_line, maybe_on_line, name_on_line, node_in_line, nodes_in_line, nodes_on_line, one_lined_children, one_lined_document, one_lined_node, one_lined_nodes}
 pub use Rattle.kdl_layout.specs.Parts.{AreFormattedEntries, IsFormattedEntry, NodeTexts, content_of, following, has_block, line_of, put_format}
 pub use Rattle.kdl_layout.specs.Plain.{no_newline, only_spaces, plain_line}
-pub use Rattle.kdl_layout.specs.Respelled.{AreRespelledChildren, AreRespelledEntries, AreRespelledNodes, HasSpellings, HasSpellingsUnless, IsContinued, IsRespelled, IsRespelledDocument, IsRespelledEntry, IsRespelledHead, IsRespelledIf, IsRespelledNode, IsSpelledEntry, IsSpelling, IsTypedFormat, KeepsForm, KeptForm, KeptLeading, KeptPlace, KeptPlaceIf, KeptSpelling, KeptTypeTexts, KeptTypeTextsIf, TypeTexts, entry_type_texts, node_type_texts, text_before, with_type_texts}
+pub use Rattle.kdl_layout.specs.Respelled.{AreRespelledChildren, AreRespelledEntries, AreRespelledNodes, HasSpellings, HasSpellingsIf, HasSpellingsUnless, IsContinued, IsRespelled, IsRespelledDocument, IsRespelledEntry, IsRespelledHead, IsRespelledIf, IsRespelledNode, IsSpelledEntry, IsSpelling, IsTypedFormat, KeepsForm, KeptForm, KeptLeading, KeptLeadingIf, KeptPlace, KeptPlaceIf, KeptSpelling, KeptTypeTexts, KeptTypeTextsIf, TypeTexts, NothingInside, bare_inside, entry_type_texts, node_type_texts, text_before, with_type_texts}
 pub use Rattle.kdl_layout.specs.Spaced.{AreSpacedNodes, IsSpacedBraced, IsSpacedChildren, IsSpacedContent, IsSpacedDocument, IsSpacedHead, IsSpacedLine, IsSpacedNode, Passes, PassesFormat, PassesNode, PassesNodes, PassesText, SpacedLines, SpacesContent, SpacesTexts}
 pub use Rattle.kdl_layout.specs.WellFormed.{AreScalars, AreWellFormed, AreWellFormedChildren, AreWellFormedEntries, IsWellFormedEntry, IsWellFormedNode}
 pub use Rattle.kdl_layout.specs.WithComments.{IsFormattedDocument}

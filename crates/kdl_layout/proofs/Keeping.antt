@@ -8,6 +8,8 @@ pub mod KeptPlaces
 pub mod ListUnique
 -- A document that is laid out has a list of items.
 pub mod ListExists
+-- Comments inside entries and types: what is kept of them.
+pub mod InnerItems
 -- Layout loses no comment.
 pub mod CommentsStay
 -- Gaps that come before any other gap, with their items.

@@ -1,5 +1,5 @@
 -- A loop that changes the elements of a list one by one, as far as it has come: each that it has left is in a relation to what was there, and the others are as they were.
-use Rattle.kdl_layout.proofs.Common.{◌≡◌, ℕ, Bool, zero, suc, ◌+◌, ◌<◌, ◌≤◌, List, [], ◌∷◌, ◌++◌, length, map, take, drop, get_or, refl, sym, ap, subst, ◌∙◌, arith, add-one, Entry, entry_data, Settings, IsWellFormedEntry, AreWellFormedEntries, IsSpelledEntry}
+use Rattle.kdl_layout.proofs.Common.{◌≡◌, ℕ, zero, suc, ◌+◌, ◌<◌, ◌≤◌, List, [], ◌∷◌, ◌++◌, length, map, take, drop, get_or, refl, sym, ap, subst, ◌∙◌, arith, add-one, Entry, entry_data, Keeping, Settings, IsWellFormedEntry, AreWellFormedEntries, IsSpelledEntry}
 use Rattle.std.proofs.Common.{set}
 use Rattle.std.proofs.lemmas.List.{length-set}
 use Rattle.kdl_layout.specs.Respelled.{AreSpelledEntries}
@@ -73,15 +73,15 @@ abbrev pub And : {B : Type 0} → (B → B → Type 0) → (B → Type 0) → B 
 And R P s t = R s t × P s
 
 -- an entry that is laid out, and well formed
-abbrev pub LaidEntry : Bool → Settings → Entry → Entry → Type 0
+abbrev pub LaidEntry : Keeping → Settings → Entry → Entry → Type 0
 LaidEntry keep s = And (IsSpelledEntry keep s) (λ e. IsWellFormedEntry (entry_data e))
 
-pub entries_laid : (keep : Bool) (s : Settings) (es es' : List Entry) → Pairwise (LaidEntry keep s) es es' → AreSpelledEntries keep s es es'
+pub entries_laid : (keep : Keeping) (s : Settings) (es es' : List Entry) → Pairwise (LaidEntry keep s) es es' → AreSpelledEntries keep s es es'
 entries_laid keep s [] [] k = ([], tt, tt)
 entries_laid keep s (e ∷ es) (e' ∷ es') ((f, w), k) = let x = entries_laid keep s es es' k in (f.0 ∷ x.0, (f.1, x.1), (f.2, x.2))
 entries_laid keep s _ _ k = absurd assumption
 
-pub entries_fit : (keep : Bool) (s : Settings) (es es' : List Entry) → Pairwise (LaidEntry keep s) es es' → AreWellFormedEntries (map entry_data es)
+pub entries_fit : (keep : Keeping) (s : Settings) (es es' : List Entry) → Pairwise (LaidEntry keep s) es es' → AreWellFormedEntries (map entry_data es)
 entries_fit keep s [] [] k = tt
 entries_fit keep s (e ∷ es) (e' ∷ es') k = (k.0.1, entries_fit keep s es es' k.1)
 entries_fit keep s _ _ k = absurd assumption

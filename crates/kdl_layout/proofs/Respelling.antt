@@ -8,9 +8,9 @@ pub mod Kept
 pub mod Written
 -- What a layout that keeps spellings leaves as it was.
 pub mod Leaves
--- If no spellings are kept, nothing is put back.
+-- If neither spellings nor comments inside entries are kept, nothing is put back.
 pub mod Off
--- An entry that is laid out with its spellings, from the steps that lay it out.
+-- An entry that is laid out with what is kept inside it, from the steps that lay it out.
 pub mod Entries
 -- A second layout that keeps spellings changes nothing.
 pub mod Again

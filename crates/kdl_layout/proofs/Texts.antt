@@ -1,5 +1,5 @@
 -- Texts of one or four characters, and the formats of lines and documents.
-use Rattle.kdl_layout.proofs.Common.{◌≡◌, ◌≢◌, ℕ, Bool, zero, suc, true, false, List, [], ◌∷◌, ◌++◌, ◌==◌, lit<, refl, sym, ap, ◌∙◌, Option, None, Some, String, string_bytes, Global, IfOk, MatchBool, MatchOption, Result, Ok, Err, ◌+◌, add-one, append_assoc, and_parts, eqb-true, chars-IsAscii, chars-nil, chars-append, chars_past_char, encodes-chars, IsUtf8-string_bytes, encode_utf8, list_all, repeat, chars, encode_utf8_all, IsAscii, IsUtf8, Text, times, print_value, text_of, Entry, EntryFormat, empty_format, entry_format_tree, KdlEntryFormat, DocumentFormat, NodeFormat, node_format_tree, document_format_tree, KdlNodeFormat, or_empty_document, in_braces, without_bom, NodeTexts, line_of, following, option_map, Identifier, autoformatted_format, is_kept_format}
+use Rattle.kdl_layout.proofs.Common.{◌≡◌, ◌≢◌, ℕ, Bool, zero, suc, true, false, List, [], ◌∷◌, ◌++◌, ◌==◌, lit<, refl, sym, ap, ◌∙◌, Option, None, Some, String, string_bytes, Global, IfOk, MatchBool, MatchOption, Result, Ok, Err, ◌+◌, add-one, append_assoc, and_parts, eqb-true, chars-IsAscii, chars-nil, chars-append, chars_past_char, encodes-chars, IsUtf8-string_bytes, encode_utf8, list_all, repeat, chars, encode_utf8_all, IsAscii, IsUtf8, Text, times, Value, print_value, put_format, text_of, Entry, EntryFormat, empty_format, entry_format_tree, KdlEntryFormat, DocumentFormat, NodeFormat, node_format_tree, document_format_tree, KdlNodeFormat, or_empty_document, in_braces, without_bom, NodeTexts, line_of, following, option_map, Identifier, autoformatted_format, is_kept_format, plain_format}
 use Rattle.std.proofs.Common.{string_len}
 use Rattle.std.proofs.lemmas.Bool.{ltb-true}
 use Rattle.std.proofs.lemmas.Str.{chars_from_encodes}
@@ -41,11 +41,16 @@ content_made leading e = ap (λ (t : Text). let f : DocumentFormat = record { le
 pub braces_made : (l t : String Global) (f g : DocumentFormat) (before : Text) → text_of l ≡ 10 ∷ f.leading → text_of t ≡ f.trailing ++ before → Some f ≡ Some g → document_format_tree (record { leading = l; trailing = t }) ≡ in_braces before g
 braces_made l t f g before x y e = rw (x, y) (ap (λ (o : Option DocumentFormat). in_braces before (or_empty_document o)) e)
 
--- an entry after a text
-pub entry_made : (f : KdlEntryFormat) (a b : String Global) (t : Text) (e : Entry) → entry_format_tree f ≡ empty_format → text_of a ≡ print_value e.value → text_of b ≡ t ++ (32 ∷ []) → t ≢ []
-    → record e { format = Some (entry_format_tree (record f { value_repr = a; leading = b })) } ≡ following t e
-entry_made f a b [] e h x y n = absurd (n refl)
-entry_made f a b (c ∷ s) e h x y n = ap (λ (z : EntryFormat). record e { format = Some (record z { value_repr = text_of a; leading = text_of b }) }) h ∙ rw (x, y) refl
+-- the format of an entry after a text
+pub format_made : (f : KdlEntryFormat) (a b : String Global) (t : Text) (v : Value) → entry_format_tree f ≡ empty_format → text_of a ≡ print_value v → text_of b ≡ t ++ (32 ∷ []) → t ≢ []
+    → Some (entry_format_tree (record f { value_repr = a; leading = b })) ≡ plain_format t v
+format_made f a b [] v h x y n = absurd (n refl)
+format_made f a b (c ∷ s) v h x y n = ap (λ (z : EntryFormat). let g : EntryFormat = record z { value_repr = text_of a; leading = text_of b } in Some g) h ∙ rw (x, y) refl
+
+-- an entry with this format follows the text
+pub put_plain : (t : Text) (e : Entry) → put_format (plain_format t e.value) e ≡ following t e
+put_plain [] e = refl
+put_plain (c ∷ t) e = refl
 
 -- a printed text
 pub printed_text : {E : Type 0} (r : Result (String Global) E) (t : Text) → IfOk r (λ s. string_bytes s ≡ encode_utf8_all t) → IfOk r (λ s. text_of s ≡ t)

@@ -1,10 +1,11 @@
 -- The configuration of layout.
-use Rattle.std.specs.Prelude.{◌≡◌, ℕ, Bool, true, false, ◌∷◌, []}
+use Rattle.std.specs.Prelude.{◌≡◌, ℕ, Bool, true, false, ◌||◌, ◌∷◌, []}
 use Rattle.std.specs.List.{list_all, repeat}
 use Rattle.std.specs.Str.{chars}
 use Rattle.kdl_text.specs.Chars.{Text, is_space}
 use Rattle.kdl_layout.specs.declared.config.FormatConfig.{FormatConfig}
 use Rattle.kdl_layout.specs.declared.config.FormatConfigBuilder.{FormatConfigBuilder}
+use Rattle.kdl_layout.specs.declared.config.Layout.{Layout}
 
 -- the level of the outermost nodes, the text before a node once for each level, whether comments are removed, and
 -- whether all entries keep their form
@@ -41,3 +42,18 @@ settings c = record { indent_level = c.indent_level; indent = chars c.indent.now
 -- what a builder has set so far
 abbrev pub settings_so_far : FormatConfigBuilder → Settings
 settings_so_far b = settings b.0
+
+-- what stays inside nodes: spellings, and texts with comments inside an entry or a type, which also stay with spellings
+pub record Keeping : Type 0 where
+  pub spelling : Bool
+  pub comments : Bool
+
+abbrev pub keeps_texts : Keeping → Bool
+keeps_texts k = k.spelling || k.comments
+
+abbrev pub nothing : Keeping
+nothing = record { spelling = false; comments = false }
+
+-- what a layout in memory keeps there
+abbrev pub keeping : Layout → Keeping
+keeping l = record { spelling = l.keep_spelling; comments = l.keep_inner_comments }

@@ -5,7 +5,7 @@ use Rattle.kdl_text.specs.Chars.{Text}
 use Rattle.kdl_entry.specs.Tree.{Identifier, Entry, EntryFormat}
 use Rattle.kdl_grammar.specs.Tree.{NodeFormat, DocumentFormat, Head, Node, node, Children, no_children, children, Document, document, Nodes, none, first}
 use Rattle.kdl_parts.specs.Formats.{empty_node_format}
-use Rattle.kdl_layout.specs.Config.{Settings}
+use Rattle.kdl_layout.specs.Config.{Settings, Keeping}
 use Rattle.kdl_layout.specs.Formatted.{or_empty}
 use Rattle.kdl_layout.specs.Plain.{no_newline, only_spaces}
 use Rattle.kdl_layout.specs.Respelled.{IsSpelledDocument, IsSpelledNode}
@@ -123,11 +123,11 @@ abbrev mutual
   one_lined_nodes keep (first n ns) none = none
   one_lined_nodes keep (first n ns) (first n' ns') = first (one_lined_node keep n n') (one_lined_nodes keep ns ns')
 
--- the second node is the first one, laid out at the level with blank lines; its spellings are kept if `spelling` is
--- true, and each block that is on one line stays there if `line` is true
-abbrev pub IsLaidNode : Bool → Bool → ℕ → Settings → ℕ → Before → Node → Node → Type 0
-IsLaidNode spelling line number s level b n n' = (r : Node) × IsSpelledNode spelling number s level b n r × (n' ≡ one_lined_node line n r)
+-- the second node is the first one, laid out at the level with blank lines, and with what `keep` keeps inside nodes; each
+-- block that is on one line stays there if `line` is true
+abbrev pub IsLaidNode : Keeping → Bool → ℕ → Settings → ℕ → Before → Node → Node → Type 0
+IsLaidNode keep line number s level b n n' = (r : Node) × IsSpelledNode keep number s level b n r × (n' ≡ one_lined_node line n r)
 
 -- the same for a document
-abbrev pub IsLaidDocument : Bool → Bool → ℕ → Settings → ℕ → Document → Document → Type 0
-IsLaidDocument spelling line number s level d d' = (r : Document) × IsSpelledDocument spelling number s level d r × (d' ≡ one_lined_document line d r)
+abbrev pub IsLaidDocument : Keeping → Bool → ℕ → Settings → ℕ → Document → Document → Type 0
+IsLaidDocument keep line number s level d d' = (r : Document) × IsSpelledDocument keep number s level d r × (d' ≡ one_lined_document line d r)

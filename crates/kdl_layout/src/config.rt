@@ -1,6 +1,6 @@
 //! The configuration of layout.
 
-ghost use Rattle.kdl_layout.specs.Config.{defaults, settings, settings_so_far};
+ghost use Rattle.kdl_layout.specs.Config.{defaults, keeping, keeps_texts, nothing, settings, settings_so_far};
 ghost use Rattle.kdl_text.specs.Chars as class;
 ghost use Rattle.std.specs.List.{list_all};
 ghost use Rattle.std.specs.Prelude.{◌≡◌, false, option_map, unwrap_or};
@@ -50,13 +50,18 @@ pub struct Layout<'a> {
     /// of a name, a key or a type that is one of its string. A spelling that means something else, as `set_value` can
     /// leave it, is replaced.
     ///
-    /// With the spelling of its value, an entry keeps the texts with comments inside its type, after its type and around
-    /// its `=`, and the text before it if this continues the line (KDL 2.0.0, Line Continuation) and no entry is
-    /// slashdashed there. Such a text stays as it is. A node keeps the texts with comments inside and after its type. If
-    /// comments are removed, none of these texts stay, except one without comments that continues the line.
+    /// With spellings stay the texts of `keep_inner_comments`, and the text before an entry if this continues the line
+    /// (KDL 2.0.0, Line Continuation) and no entry is slashdashed there. If comments are removed, only a text without
+    /// comments that continues the line stays.
     ///
     /// An entry that is flagged to keep its form is laid out as without this field.
     pub keep_spelling: bool,
+    /// Whether texts with comments stay inside types, after types and around `=`, also if spellings do not stay. Such a
+    /// text may also be one that continues the line. It stays as it is, with LF for a CR at its end. So no comment of a
+    /// text is lost, unless comments are removed.
+    ///
+    /// An entry that is flagged to keep its form is laid out as without this field.
+    pub keep_inner_comments: bool,
     /// Whether a block that is on one line stays on one line: `{ a 1; b 2 }`, or `{}` without nodes. From its `{` to its
     /// `}` such a block prints no newline, also in no string, and no comment, slashdashed piece or line continuation, and
     /// its nodes have no blocks. Comments count even if they are removed. Its last node ends without a terminator, so a
@@ -65,8 +70,8 @@ pub struct Layout<'a> {
 }
 
 impl Layout<'_> {
-    /// Creates a layout with the default configuration, which keeps no blank lines, no spellings, and no blocks on one
-    /// line.
+    /// Creates a layout with the default configuration, which keeps no blank lines, no spellings, no comments inside
+    /// entries and types, and no blocks on one line.
     ///
     /// ```
     /// let layout = Layout { blank_lines: 1, ..Layout::new() };
@@ -74,21 +79,29 @@ impl Layout<'_> {
     pub fn new() -> Layout<'static>
         ensures config { settings result.config ≡ defaults }
         ensures blank_lines { result.blank_lines ≡ 0 }
-        ensures keep_spelling { result.keep_spelling ≡ false }
+        ensures keeping { keeping result ≡ nothing }
         ensures one_line { result.keep_one_line ≡ false }
     {
         Layout {
             config: FormatConfig::default(),
             blank_lines: 0,
             keep_spelling: false,
+            keep_inner_comments: false,
             keep_one_line: false,
         }
+    }
+
+    /// Returns whether texts with comments stay inside entries and types.
+    pub(crate) fn keeps_texts(&self) -> bool
+        ensures { result ≡ keeps_texts (keeping self.now) }
+    {
+        self.keep_spelling || self.keep_inner_comments
     }
 }
 
 impl Default for Layout<'_> {
     ghost is_default = { λ l. (settings l.config ≡ defaults) × (l.blank_lines ≡ 0)
-        × (l.keep_spelling ≡ false) × (l.keep_one_line ≡ false) };
+        × (keeping l ≡ nothing) × (l.keep_one_line ≡ false) };
 
     fn default() -> Self {
         Layout::new()

@@ -3,7 +3,7 @@
 ghost use Rattle.kdl_entry.specs.Places.{between};
 ghost use Rattle.kdl_entry.specs.Tree.{Entry, cleared, entry_data, entry_format_tree, entry_tree};
 ghost use Rattle.kdl_layout.specs.Blank.{past_node};
-ghost use Rattle.kdl_layout.specs.Config.{indentation, settings};
+ghost use Rattle.kdl_layout.specs.Config.{indentation, keeping, settings};
 ghost use Rattle.kdl_layout.specs.Formatted.{newline_if_none, or_empty, or_empty_document, with_keep_if};
 ghost use Rattle.kdl_layout.specs.Internal.Names.{IsLaid};
 ghost use Rattle.kdl_layout.specs.Kept.{KeptBefore, KeptBeforeBlock, KeptEnd, KeptTail, is_kept_format, last_place, without_bom};
@@ -14,14 +14,13 @@ ghost use Rattle.kdl_layout.specs.Respelled.{AreSpelledEntries, HasSpellings, Is
 ghost use Rattle.kdl_layout.specs.Internal.Laying.{EndsNodes, KeepsBeforeNode, KeepsLines, KeepsLinesAfter, PassesLine, SetsContent, SetsLine};
 ghost use Rattle.kdl_layout.specs.Spaced.{IsSpacedBraced, Passes};
 ghost use Rattle.kdl_layout.specs.WellFormed.{AreWellFormedEntries, IsWellFormedEntry};
-ghost use Rattle.kdl_layout.specs.Parts.{following, put_format};
+ghost use Rattle.kdl_layout.specs.Parts.{put_format};
 ghost use Rattle.kdl_grammar.specs.ReadsBack.{EntryReads};
 ghost use Rattle.kdl_grammar.specs.Tree.{Nodes};
 ghost use Rattle.kdl_layout.specs.Internal.Reading.{place_view};
 ghost use Rattle.kdl_parts.specs.Formats.{document_format_tree, document_texts, node_format_tree, node_texts};
 ghost use Rattle.kdl_text.specs.Chars.{Text};
 ghost use Rattle.kdl_text.specs.Trivia.{LineComment};
-ghost use Rattle.kdl_value.specs.Print.{print_value};
 ghost use Rattle.kdl_value.specs.Tree.{text_of, value_tree};
 ghost use Rattle.kdl_value.specs.WellFormed.{IsWellFormed};
 ghost use Rattle.std.specs.List.{All, list_all, repeat};
@@ -30,8 +29,8 @@ ghost use Rattle.std.specs.Str.{chars};
 
 use crate::blank::{Before, Last, past_items, past_node, push_empty_lines, push_spaced_lines};
 use crate::config::{FormatConfig, Layout, is_kdl_space};
-use crate::kept::{no_text, spelled_format};
-use crate::names::{autoformat_but, has_spelling, is_flagged, name_spelling_if};
+use crate::kept::{format_after, no_text, respelled_format, spelled_format};
+use crate::names::{autoformat_but, is_flagged, keeps_value, name_spelling_if};
 use crate::places::{gap_items, place_items};
 use crate::spaces::{Place, line};
 use crate::written::{push_lines, push_tail, push_text};
@@ -183,34 +182,6 @@ fn kept_before(alloc: Global, config: &FormatConfig, entry: &KdlEntry) -> Result
     }
 }
 
-/// Returns the value as it is printed.
-fn printed(alloc: Global, value: &KdlValue) -> Result<String, AllocError>
-    ensures { IfOk result (λ t. text_of t ≡ print_value (value_tree value.now)) }
-{
-    value.to_string(alloc)
-}
-
-/// Returns the format of an entry after what is kept of the text before it: `kept` and a space, and the value as it is
-/// printed. If `kept` is empty, returns `None`.
-#[inline(always)]
-fn format_after(
-    alloc: Global,
-    entry: &KdlEntry,
-    kept: String,
-) -> Result<Option<KdlEntryFormat>, AllocError>
-    ensures { IfOk result (λ o. (e : Entry) → e.value ≡ (entry_tree entry.now).value
-        → put_format (option_map entry_format_tree o) e ≡ following (text_of kept) e) }
-{
-    if kept.is_empty() {
-        return Ok(None);
-    }
-    let mut format = KdlEntryFormat::new(alloc);
-    format.value_repr = printed(alloc, entry.value())?;
-    format.leading = kept;
-    push_text(&mut format.leading, " ")?;
-    Ok(Some(format))
-}
-
 /// Sets the format of the entry, if there is one.
 fn put_format(entry: &mut KdlEntry, format: Option<KdlEntryFormat>)
     ensures { entry_tree entry.new ≡ put_format (option_map entry_format_tree format)
@@ -221,23 +192,22 @@ fn put_format(entry: &mut KdlEntry, format: Option<KdlEntryFormat>)
     }
 }
 
-/// Lays out an entry that keeps its spellings.
+/// Lays out an entry that keeps comments inside it, and its spellings if the layout keeps them.
 fn lay_out_spelled(alloc: Global, entry: &mut KdlEntry, layout: &Layout) -> Result<(), AllocError>
-    requires keep { layout.now.keep_spelling ≡ true }
-    requires unflagged { is_kept_format (entry_tree entry.old).format ≡ false }
+    requires { is_kept_format (entry_tree entry.old).format ≡ false }
     ensures same { OnErr result (entry_tree entry.new ≡ entry_tree entry.old) }
     ensures spelled { OnOk result ((m : Entry)
         × IsLaid (settings layout.now.config) (entry_tree entry.old) m
-        × HasSpellings (settings layout.now.config) (entry_tree entry.old) m
-        (entry_tree entry.new)) }
+        × HasSpellings layout.now.keep_spelling (settings layout.now.config)
+        (entry_tree entry.old) m (entry_tree entry.new)) }
 {
     let key = name_spelling_if(alloc, layout, entry.name())?;
     let ty = name_spelling_if(alloc, layout, entry.ty())?;
     let kept = kept_before(alloc, &layout.config, entry)?;
-    let format = if has_spelling(alloc, entry)? {
+    let format = if keeps_value(alloc, layout, entry)? {
         spelled_format(alloc, layout, entry, kept)?
     } else {
-        format_after(alloc, entry, kept)?
+        respelled_format(alloc, layout, entry, kept)?
     };
     autoformat_but(alloc, entry, key, ty);
     put_format(entry, format);
@@ -265,13 +235,13 @@ fn well_formed_entry(entry: &KdlEntry)
 fn lay_out_entry(alloc: Global, entry: &mut KdlEntry, layout: &Layout) -> Result<(), AllocError>
     ensures flagged { OnErr result (entry_tree entry.new ≡
         with_keep_if layout.now.config.entry_autoformate_keep (entry_tree entry.old)) }
-    ensures formatted { OnOk result (IsSpelledEntry layout.now.keep_spelling
+    ensures formatted { OnOk result (IsSpelledEntry (keeping layout.now)
         (settings layout.now.config) (entry_tree entry.old) (entry_tree entry.new)) }
     ensures well_formed { IsWellFormedEntry (entry_data (entry_tree entry.old)) }
 {
     well_formed_entry(entry);
     flag(entry, &layout.config);
-    if layout.keep_spelling && !is_flagged(entry) {
+    if layout.keeps_texts() && !is_flagged(entry) {
         return lay_out_spelled(alloc, entry, layout);
     }
     let kept = kept_before(alloc, &layout.config, entry)?;
@@ -282,9 +252,9 @@ fn lay_out_entry(alloc: Global, entry: &mut KdlEntry, layout: &Layout) -> Result
 }
 
 /// Lays out each entry of a node. Keeps the comments and slashdashed pieces before an entry, unless the configuration
-/// removes them, and the spellings that mean what they did, if the layout keeps spellings. An entry that is flagged to
-/// keep its form keeps the whole text before it. Allocates only for what is kept, and to read spellings. If an
-/// allocation fails, each entry is laid out or not, and still reads back.
+/// removes them, and the comments inside it and the spellings that mean what they did, if the layout keeps these. An
+/// entry that is flagged to keep its form keeps the whole text before it. Allocates only for what is kept, and to read
+/// spellings. If an allocation fails, each entry is laid out or not, and still reads back.
 pub fn lay_out_entries(entries: &mut Vec<KdlEntry>, layout: &Layout) -> Result<(), AllocError>
     ensures same { map cleared (map entry_tree entries.new.items) ≡
         map cleared (map entry_tree entries.old.items) }
@@ -293,7 +263,7 @@ pub fn lay_out_entries(entries: &mut Vec<KdlEntry>, layout: &Layout) -> Result<(
         → All EntryReads (map entry_tree entries.old.items)
         → All EntryReads (map entry_tree entries.new.items)
         × EntriesKeepReading (settings layout.now.config) (map entry_tree entries.new.items) }
-    ensures formatted { OnOk result (AreSpelledEntries layout.now.keep_spelling
+    ensures formatted { OnOk result (AreSpelledEntries (keeping layout.now)
         (settings layout.now.config)
         (map entry_tree entries.old.items) (map entry_tree entries.new.items)) }
     ensures well_formed { OnOk result

@@ -1,7 +1,7 @@
 //! Spellings that layout keeps, of names, keys, types and values.
 
 ghost use Rattle.kdl_entry.specs.Tree.{entry_tree, identifier_tree, unspelled};
-ghost use Rattle.kdl_layout.specs.Internal.Names.{HasSpelling, Keeps, KeepsName, autoformatted_but, emptied_key, emptied_type, spelling_of, unspelled_value, with_spelling, with_spelling_if};
+ghost use Rattle.kdl_layout.specs.Internal.Names.{Keeps, KeepsName, KeepsValue, autoformatted_but, emptied_key, emptied_type, spelling_of, unspelled_value, with_spelling, with_spelling_if};
 ghost use Rattle.kdl_layout.specs.Kept.{is_kept_format};
 ghost use Rattle.kdl_value.specs.Tree.{text_of};
 ghost use Rattle.std.specs.Prelude.{◌≡◌, IfOk, option_map};
@@ -128,11 +128,19 @@ pub(crate) fn autoformat_but(
     }
 }
 
-/// Returns whether the entry has a format with a spelling of its value.
-pub(crate) fn has_spelling(alloc: Global, entry: &KdlEntry) -> Result<bool, AllocError>
-    ensures { IfOk result (λ b. HasSpelling (entry_tree entry.now).value
+/// Returns whether the spelling of the entry's value is kept: the layout keeps spellings, and the entry has a format with
+/// a spelling of its value.
+pub(crate) fn keeps_value(
+    alloc: Global,
+    layout: &Layout,
+    entry: &KdlEntry,
+) -> Result<bool, AllocError>
+    ensures { IfOk result (λ b. KeepsValue layout.now.keep_spelling (entry_tree entry.now).value
         (entry_tree entry.now).format b) }
 {
+    if !layout.keep_spelling {
+        return Ok(false);
+    }
     match entry.format() {
         Some(format) => spells_value(alloc, format.value_repr.as_str(), entry.value()),
         None => Ok(false),

@@ -21,7 +21,7 @@ pub fn push_text(out: &mut String, text: &str) -> Result<(), AllocError>
 }
 
 /// Appends the text, with a CR at its end written as LF.
-fn push_line_text(out: &mut String, text: &str) -> Result<(), AllocError>
+pub(crate) fn push_line_text(out: &mut String, text: &str) -> Result<(), AllocError>
     ensures { OnOk result (text_of out.new ≡ text_of out.old ++ line_text (chars text.now)) }
 {
     match text.strip_suffix('\r') {

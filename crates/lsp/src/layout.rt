@@ -43,6 +43,7 @@ fn formatted(alloc: Global, text: &str, indent: Option<usize>) -> Result<String,
         config: FormatConfig::builder().indent(&indent).build(),
         blank_lines: 1,
         keep_spelling: true,
+        keep_inner_comments: true,
         keep_one_line: true,
     };
     document.autoformat_layout(&layout)?;

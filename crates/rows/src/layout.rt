@@ -132,9 +132,14 @@ fn lay_out_with(
         config,
         blank_lines: asked.blank_lines.unwrap_or(0),
         keep_spelling: case.row.has("keep spelling"),
+        keep_inner_comments: case.row.has("keep inner comments"),
         keep_one_line: case.row.has("keep one line"),
     };
-    if asked.blank_lines.is_some() || layout.keep_spelling || layout.keep_one_line {
+    if asked.blank_lines.is_some()
+        || layout.keep_spelling
+        || layout.keep_inner_comments
+        || layout.keep_one_line
+    {
         item.lay_out_by(&layout)?;
     } else if indent.is_some() || level.is_some() {
         item.lay_out_as(&config)?;

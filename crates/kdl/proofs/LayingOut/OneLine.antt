@@ -1,5 +1,5 @@
 -- A block that is laid out, with its texts: on one line, or on more.
-use Rattle.kdl.proofs.Common.{◌≡◌, ℕ, suc, ◌+◌, ◌<◌, ◌==◌, Bool, true, false, List, [], ◌∷◌, length, map, Option, None, Some, option_map, refl, sym, ap, ◌∙◌, subst, eqb-true, list_all, ◌&&◌, is_some, not, is_space, SourceSpan, entry_tree, identifier_tree, Anything, BlockEnd, ContentReads, NodesRead, BlockReads, block, leading_text, trailing_text, DocumentFormat, NodeFormat, Head, Node, node, children, children_of, Document, document, Nodes, listed_nodes, node_data, block_reads, with_block, document_format_tree, node_format_tree, IndentsBySpaces, Settings, settings, or_empty, or_empty_document, Keeps, KeepsName, with_spelling, with_spelling_if, NodesKeepReading, formats_in_line, is_on_one_line, nodes_on_line, one_lined_node, one_lined_nodes, AreSpelledEntries, IsTypedFormat, IsSpacedChildren, IsSpacedLine, IsWellFormedNode, Before, Layout, SpellingRule, BlockIsSpaced, IsAround, IsAroundIf, NodeIsSpaced, NodesAreSpaced, StaysAs, braces_of, enclosed, filled, filled_block, lined, with_braces, with_formats, with_texts, document_tree, head_tree, node_tree, nodes_tree, KdlDocument, out-KdlDocument, out-KdlNode, Around, KdlNode}
+use Rattle.kdl.proofs.Common.{◌≡◌, keeping, keeps_texts, ℕ, suc, ◌+◌, ◌<◌, ◌==◌, Bool, true, false, List, [], ◌∷◌, length, map, Option, None, Some, option_map, refl, sym, ap, ◌∙◌, subst, eqb-true, list_all, ◌&&◌, is_some, not, is_space, SourceSpan, entry_tree, identifier_tree, Anything, BlockEnd, ContentReads, NodesRead, BlockReads, block, leading_text, trailing_text, DocumentFormat, NodeFormat, Head, Node, node, children, children_of, Document, document, Nodes, listed_nodes, node_data, block_reads, with_block, document_format_tree, node_format_tree, IndentsBySpaces, Settings, settings, or_empty, or_empty_document, Keeps, KeepsName, with_spelling, with_spelling_if, NodesKeepReading, formats_in_line, is_on_one_line, nodes_on_line, one_lined_node, one_lined_nodes, AreSpelledEntries, IsTypedFormat, IsSpacedChildren, IsSpacedLine, IsWellFormedNode, Before, Layout, SpellingRule, BlockIsSpaced, IsAround, IsAroundIf, NodeIsSpaced, NodesAreSpaced, StaysAs, braces_of, enclosed, filled, filled_block, lined, with_braces, with_formats, with_texts, document_tree, head_tree, node_tree, nodes_tree, KdlDocument, out-KdlDocument, out-KdlNode, Around, KdlNode}
 use Rattle.std.proofs.Common.{◌^◌}
 use Rattle.std.proofs.lemmas.Bool.{and_parts}
 use Rattle.kdl_layout.specs.OneLine.{braces_in_line, braces_on_line, in_one_line, node_in_line, nodes_in_line, one_lined_children, one_lined_document}
@@ -60,7 +60,7 @@ module _ (l : Layout) (level : ℕ) (f : Option DocumentFormat) (at : SourceSpan
 
   -- each node is on lines of its own
   on_lines : AreLined l.blank_lines (settings l.config) (level + 1) c (nodes_tree ns) (listed_nodes w.nodes)
-  on_lines = parts.lined l.blank_lines (settings l.config) l.keep_spelling (level + 1) c (nodes_tree ns) (listed_nodes w.between) (listed_nodes w.nodes) w.spaced w.respelled
+  on_lines = parts.lined l.blank_lines (settings l.config) (keeping l) (level + 1) c (nodes_tree ns) (listed_nodes w.between) (listed_nodes w.nodes) w.spaced w.respelled
 
   -- the nodes end by themselves
   nodes_end : list_all is_space (settings l.config).indent ≡ true → BlockReads (document f at (listed_nodes ms)) → NodesRead Anything (one_lined_nodes l.keep_one_line (nodes_tree ns) (listed_nodes w.nodes))
@@ -164,11 +164,11 @@ pub own_spaced : (l : Layout) (m n : KdlNode) (level : ℕ) (c : Before) (b : Bo
     → (keeps_type keeps_name : SpellingRule) → Keeps l.keep_spelling (option_map identifier_tree (out-KdlNode n).ty) keeps_type → KeepsName l.keep_spelling (identifier_tree (out-KdlNode n).name) keeps_name
     → option_map identifier_tree (out-KdlNode m).ty ≡ with_spelling_if keeps_type (option_map identifier_tree (out-KdlNode n).ty)
     → identifier_tree (out-KdlNode m).name ≡ with_spelling keeps_name (identifier_tree (out-KdlNode n).name)
-    → AreSpelledEntries l.keep_spelling (settings l.config) (map entry_tree (out-KdlNode n).entries.items) (map entry_tree (out-KdlNode m).entries.items)
+    → AreSpelledEntries (keeping l) (settings l.config) (map entry_tree (out-KdlNode n).entries.items) (map entry_tree (out-KdlNode m).entries.items)
     → (f : Option NodeFormat) → IsSpacedLine l.blank_lines (settings l.config) level b c (or_empty (option_map node_format_tree (out-KdlNode n).format)) f
-    → IsTypedFormat (l.keep_spelling && not l.config.no_comments && is_some (option_map identifier_tree (out-KdlNode n).ty)) (or_empty (option_map node_format_tree (out-KdlNode n).format)) f (option_map node_format_tree (out-KdlNode m).format)
+    → IsTypedFormat (keeps_texts (keeping l) && not l.config.no_comments && is_some (option_map identifier_tree (out-KdlNode n).ty)) (or_empty (option_map node_format_tree (out-KdlNode n).format)) f (option_map node_format_tree (out-KdlNode m).format)
     → (out-KdlNode m).span ≡ (out-KdlNode n).span → (out-KdlNode m).children ≡ (out-KdlNode n).children → BlockSpacing l level (out-KdlNode n).children g ms → IsWellFormedNode (node_data (node_tree n))
     → NodeIsSpaced l level c (node_tree n) (enclosed g m ms) × (IndentsBySpaces (settings l.config) → StaysAs (settings l.config) (filled m ms) (enclosed g m ms))
 own_spaced l m n level c b g ms has kt kn keeps_type keeps_name ty name entries f line typed span is w fit =
-    let mid = laid_node m n l.keep_spelling l.blank_lines (settings l.config) level c b w.between w.nodes has kt kn keeps_type keeps_name ty name entries f line typed span (out-KdlNode n).children is refl w.braces w.spaced w.respelled in
+    let mid = laid_node m n (keeping l) l.blank_lines (settings l.config) level c b w.between w.nodes has kt kn keeps_type keeps_name ty name entries f line typed span (out-KdlNode n).children is refl w.braces w.spaced w.respelled in
     (((with_braces w.braces (filled m w.nodes), mid, one_lined l m n is g ms w.braces w.nodes w.same), fit), λ ok. enclosed_stays l m n is g ms (w.stays ok))

@@ -1,5 +1,5 @@
 -- Nodes and documents whose parts were laid out.
-use Rattle.kdl.proofs.Common.{◌≡◌, ℕ, suc, Bool, List, [], ◌∷◌, length, map, Option, None, Some, option_map, refl, sym, ap, ◌∙◌, subst, Vec, Global, arith, is_some, not, ◌&&◌, slice_get, ◌-◌, text_scalars, Identifier, identifier_tree, entry_tree, entry_data, unspelled, SourceSpan, NodeFormat, document_data, Head, Node, node, Nodes, listed_nodes, Document, document, children_of, first, node_data, nodes_data, children_data, DocumentFormat, Settings, settings, Keeps, KeepsName, with_spelling, with_spelling_if, IsLaidDocument, one_lined_node, one_lined_nodes, IsTypedFormat, IsRespelledIf, AreSpelledEntries, IsSpelledNode, IsSpacedLine, IsSpacedContent, IsSpacedChildren, Before, Layout, KdlNodeFormat, or_empty, or_empty_document, bare_node, bare_nodes, IsWellFormedNode, has_block, SpellingRule, scalars, node_format_tree, node_texts, document_format_tree, child_nodes, nodes_in, NodesAreSpaced, PassesAt, filled_block, filled, with_braces, with_texts, node_tree, document_tree, nodes_tree, KdlNode, KdlDocument, out-KdlNode, out-KdlDocument}
+use Rattle.kdl.proofs.Common.{◌≡◌, Keeping, keeping, keeps_texts, ℕ, suc, Bool, List, [], ◌∷◌, length, map, Option, None, Some, option_map, refl, sym, ap, ◌∙◌, subst, Vec, Global, arith, is_some, not, ◌&&◌, slice_get, ◌-◌, text_scalars, Identifier, identifier_tree, entry_tree, entry_data, unspelled, SourceSpan, NodeFormat, document_data, Head, Node, node, Nodes, listed_nodes, Document, document, children_of, first, node_data, nodes_data, children_data, DocumentFormat, Settings, settings, Keeps, KeepsName, with_spelling, with_spelling_if, IsLaidDocument, one_lined_node, one_lined_nodes, IsTypedFormat, IsRespelledIf, AreSpelledEntries, IsSpelledNode, IsSpacedLine, IsSpacedContent, IsSpacedChildren, Before, Layout, KdlNodeFormat, or_empty, or_empty_document, bare_node, bare_nodes, IsWellFormedNode, has_block, SpellingRule, scalars, node_format_tree, node_texts, document_format_tree, child_nodes, nodes_in, NodesAreSpaced, PassesAt, filled_block, filled, with_braces, with_texts, node_tree, document_tree, nodes_tree, KdlNode, KdlDocument, out-KdlNode, out-KdlDocument}
 use Rattle.kdl_layout.specs.Respelled.{IsRespelled, AreRespelledChildren, AreRespelledNodes}
 use Rattle.kdl_layout.specs.Spaced.{AreSpacedNodes, PassesFormat, PassesNodes}
 use Rattle.kdl_layout.specs.Formatted.{bare_document}
@@ -12,7 +12,7 @@ pub record NodesLaid (l : Layout) (level : ℕ) (b : Before) (ns ms : List Node)
   pub between : List Node
   pub nodes : List Node
   pub spaced : AreSpacedNodes l.blank_lines (settings l.config) level b (listed_nodes ns) (listed_nodes between)
-  pub respelled : AreRespelledNodes l.keep_spelling (settings l.config) (listed_nodes ns) (listed_nodes between) (listed_nodes nodes)
+  pub respelled : AreRespelledNodes (keeping l) (settings l.config) (listed_nodes ns) (listed_nodes between) (listed_nodes nodes)
   pub same : listed_nodes ms ≡ one_lined_nodes l.keep_one_line (listed_nodes ns) (listed_nodes nodes)
 
 pub nodes_laid : (l : Layout) (level : ℕ) (b : Before) (ns ms : List Node) → NodesAreSpaced l level b ns ms → NodesLaid l level b ns ms
@@ -49,20 +49,20 @@ block_there None b e = e
 block_there (Some d) b e = e
 
 -- a block with other nodes, and with the spellings of these put back
-pub respelled_block : (keep : Bool) (s : Settings) (o : Option KdlDocument) (x : Option DocumentFormat) (xs ms : List Node) → AreRespelledNodes keep s (nodes_tree (nodes_in o)) (listed_nodes xs) (listed_nodes ms)
+pub respelled_block : (keep : Keeping) (s : Settings) (o : Option KdlDocument) (x : Option DocumentFormat) (xs ms : List Node) → AreRespelledNodes keep s (nodes_tree (nodes_in o)) (listed_nodes xs) (listed_nodes ms)
     → AreRespelledChildren keep s (children_of (option_map document_tree o)) (with_texts x (filled_block o xs)) (with_texts x (filled_block o ms))
 respelled_block keep s None x xs ms r = tt
 respelled_block keep s (Some d) x xs ms r = rw (document_tree_out d) (refl, refl, r)
 
 -- a node of which the parts are known
 module _ (m n : KdlNode) where
-  pub laid_node : (keep : Bool) (number : ℕ) (s : Settings) (level : ℕ) (c : Before) (b : Bool) (xs ms : List Node) → b ≡ is_some (out-KdlNode n).children
-      → (keeps_type keeps_name : SpellingRule) → Keeps keep (option_map identifier_tree (out-KdlNode n).ty) keeps_type → KeepsName keep (identifier_tree (out-KdlNode n).name) keeps_name
+  pub laid_node : (keep : Keeping) (number : ℕ) (s : Settings) (level : ℕ) (c : Before) (b : Bool) (xs ms : List Node) → b ≡ is_some (out-KdlNode n).children
+      → (keeps_type keeps_name : SpellingRule) → Keeps keep.spelling (option_map identifier_tree (out-KdlNode n).ty) keeps_type → KeepsName keep.spelling (identifier_tree (out-KdlNode n).name) keeps_name
       → option_map identifier_tree (out-KdlNode m).ty ≡ with_spelling_if keeps_type (option_map identifier_tree (out-KdlNode n).ty)
       → identifier_tree (out-KdlNode m).name ≡ with_spelling keeps_name (identifier_tree (out-KdlNode n).name)
       → AreSpelledEntries keep s (map entry_tree (out-KdlNode n).entries.items) (map entry_tree (out-KdlNode m).entries.items)
       → (f : Option NodeFormat) → IsSpacedLine number s level b c (or_empty (option_map node_format_tree (out-KdlNode n).format)) f
-      → IsTypedFormat (keep && not s.no_comments && is_some (option_map identifier_tree (out-KdlNode n).ty)) (or_empty (option_map node_format_tree (out-KdlNode n).format)) f (option_map node_format_tree (out-KdlNode m).format)
+      → IsTypedFormat (keeps_texts keep && not s.no_comments && is_some (option_map identifier_tree (out-KdlNode n).ty)) (or_empty (option_map node_format_tree (out-KdlNode n).format)) f (option_map node_format_tree (out-KdlNode m).format)
       → (out-KdlNode m).span ≡ (out-KdlNode n).span
       → (o : Option KdlDocument) → (out-KdlNode m).children ≡ o → o ≡ (out-KdlNode n).children
       → (x : Option DocumentFormat) → IsSpacedChildren number s level (children_of (option_map document_tree (out-KdlNode n).children)) (with_texts x (filled_block o xs))
@@ -72,8 +72,8 @@ module _ (m n : KdlNode) where
       let N = out-KdlNode n in
       let o' = option_map identifier_tree N.ty in
       let i = identifier_tree N.name in
-      let ty : IsRespelledIf keep o' (option_map unspelled o') (option_map identifier_tree (out-KdlNode m).ty) = subst (λ (z : Option Identifier). IsRespelledIf keep o' (option_map unspelled o') z) (sym ty') keeps_type in
-      let name : IsRespelled keep i (unspelled i) (identifier_tree (out-KdlNode m).name) = subst (λ (z : Identifier). IsRespelled keep i (unspelled i) z) (sym name') keeps_name in
+      let ty : IsRespelledIf keep.spelling o' (option_map unspelled o') (option_map identifier_tree (out-KdlNode m).ty) = subst (λ (z : Option Identifier). IsRespelledIf keep.spelling o' (option_map unspelled o') z) (sym ty') keeps_type in
+      let name : IsRespelled keep.spelling i (unspelled i) (identifier_tree (out-KdlNode m).name) = subst (λ (z : Identifier). IsRespelled keep.spelling i (unspelled i) z) (sym name') keeps_name in
       let own = subst (λ (x : Bool). IsSpacedLine number s level x c (or_empty (option_map node_format_tree N.format)) f) (block_there N.children b e) line in
       let mid : Head = record { ty = option_map unspelled (option_map identifier_tree N.ty); name = unspelled (identifier_tree N.name); entries = es; format = f; span = N.span } in
       let r' : AreRespelledNodes keep s (nodes_tree (nodes_in o)) (listed_nodes xs) (listed_nodes ms) = subst (λ (z : Option KdlDocument). AreRespelledNodes keep s (nodes_tree (nodes_in z)) (listed_nodes xs) (listed_nodes ms)) (sym was) r in
@@ -98,7 +98,7 @@ module _ (m d : KdlDocument) (span : (out-KdlDocument m).span ≡ (out-KdlDocume
     pub laid_content : (l : Layout) (level : ℕ) (b : Before) (f : Option DocumentFormat) → option_map document_format_tree (out-KdlDocument m).format ≡ f
         → IsSpacedContent l.blank_lines (settings l.config) level (nodes_tree (out-KdlDocument d).nodes.items) (or_empty_document (option_map document_format_tree (out-KdlDocument d).format)) b f
         → NodesAreSpaced l level b (map node_tree (out-KdlDocument d).nodes.items) (map node_tree v.items)
-        → IsLaidDocument l.keep_spelling l.keep_one_line l.blank_lines (settings l.config) level (document_tree d) (document_tree m)
+        → IsLaidDocument (keeping l) l.keep_one_line l.blank_lines (settings l.config) level (document_tree d) (document_tree m)
     laid_content l level b f g c k =
         let M = out-KdlDocument m in
         let D = out-KdlDocument d in

@@ -1,5 +1,5 @@
 -- Nodes that still read back, after each step of layout.
-use Rattle.kdl.proofs.Common.{◌≡◌, ℕ, zero, suc, ◌+◌, ◌<◌, ◌≤◌, List, [], ◌∷◌, ◌++◌, length, map, set, get_or, Option, None, Some, option_map, refl, sym, ap, ◌∙◌, subst, arith, Bool, true, Vec, Global, All, list_all, ◌&&◌, is_some, not, Text, is_space, SourceSpan, Entry, Identifier, entry_tree, identifier_tree, unspelled, Settings, indentation, settings, or_empty, or_empty_document, NodesKeepReading, Keeps, KeepsName, with_spelling, with_spelling_if, IsSpacedContent, IsSpacedLine, has_block, Before, Layout, scalars, IsRespelledIf, IsTypedFormat, SpellingRule, Rests, Anything, EntryReads, NodesRead, last_node, next_node, ContentReads, BlockReads, block, DocumentReads, DocumentFormat, NodeFormat, Head, Node, node, children_of, document, listed_nodes, block_reads, with_block, document_format_tree, node_format_tree, text_of, text_scalars, filled_block, filled, with_at, whole, enclosed, PartlyOpen, IsAtLevel, IsUnderWay, NodeStays, StaysAs, StayAs, StepStays, child_nodes, nodes_in, document_tree, head_tree, node_tree, nodes_tree, KdlDocument, out-KdlDocument, out-KdlNode, LayoutFrame, KdlNode}
+use Rattle.kdl.proofs.Common.{◌≡◌, keeping, keeps_texts, ℕ, zero, suc, ◌+◌, ◌<◌, ◌≤◌, List, [], ◌∷◌, ◌++◌, length, map, set, get_or, Option, None, Some, option_map, refl, sym, ap, ◌∙◌, subst, arith, Bool, true, Vec, Global, All, list_all, ◌&&◌, is_some, not, Text, is_space, SourceSpan, Entry, Identifier, entry_tree, identifier_tree, unspelled, Settings, indentation, settings, or_empty, or_empty_document, NodesKeepReading, Keeps, KeepsName, with_spelling, with_spelling_if, IsSpacedContent, IsSpacedLine, has_block, Before, Layout, scalars, IsRespelledIf, IsTypedFormat, SpellingRule, Rests, Anything, EntryReads, NodesRead, last_node, next_node, ContentReads, BlockReads, block, DocumentReads, DocumentFormat, NodeFormat, Head, Node, node, children_of, document, listed_nodes, block_reads, with_block, document_format_tree, node_format_tree, text_of, text_scalars, filled_block, filled, with_at, whole, enclosed, PartlyOpen, IsAtLevel, IsUnderWay, NodeStays, StaysAs, StayAs, StepStays, child_nodes, nodes_in, document_tree, head_tree, node_tree, nodes_tree, KdlDocument, out-KdlDocument, out-KdlNode, LayoutFrame, KdlNode}
 use Rattle.kdl_layout.specs.KeptForm.{EntriesKeepReading, DocumentKeepsReading}
 use Rattle.kdl_layout.proofs.Formatting.PartsRead.{document_reads, own_reads}
 use Rattle.kdl_layout.proofs.Respelling.Written.{NameReads, NameReadsIf, respelled_reads, respelled_reads_if, typed_line}
@@ -149,7 +149,7 @@ pub own_stays : (l : Layout) → list_all is_space (settings l.config).indent �
     → option_map identifier_tree (out-KdlNode m).ty ≡ with_spelling_if keeps_type (option_map identifier_tree (out-KdlNode n).ty)
     → identifier_tree (out-KdlNode m).name ≡ with_spelling keeps_name (identifier_tree (out-KdlNode n).name)
     → (f : Option NodeFormat) → IsSpacedLine l.blank_lines (settings l.config) level b c (or_empty (option_map node_format_tree (out-KdlNode n).format)) f
-    → IsTypedFormat (l.keep_spelling && not l.config.no_comments && is_some (option_map identifier_tree (out-KdlNode n).ty)) (or_empty (option_map node_format_tree (out-KdlNode n).format)) f (option_map node_format_tree (out-KdlNode m).format)
+    → IsTypedFormat (keeps_texts (keeping l) && not l.config.no_comments && is_some (option_map identifier_tree (out-KdlNode n).ty)) (or_empty (option_map node_format_tree (out-KdlNode n).format)) f (option_map node_format_tree (out-KdlNode m).format)
     → (olds es : List Entry) → map entry_tree (out-KdlNode n).entries.items ≡ olds → map entry_tree (out-KdlNode m).entries.items ≡ es
     → (EntriesKeepReading (settings l.config) olds → All EntryReads olds → All EntryReads es × EntriesKeepReading (settings l.config) es)
     → (out-KdlNode m).children ≡ (out-KdlNode n).children → StaysAs (settings l.config) (node_tree n) (node_tree m)
@@ -166,7 +166,7 @@ own_stays l ok level c n m b e kt kn keeps_type keeps_name ty name f line typed 
     let o = option_map identifier_tree N.ty in
     let spaced = subst (λ (z : Bool). IsSpacedLine l.blank_lines s level z c f' f) (block_there N.children b e) line in
     let type : IsRespelledIf l.keep_spelling o (option_map unspelled o) (option_map identifier_tree M.ty) = subst (λ (z : Option Identifier). IsRespelledIf l.keep_spelling o (option_map unspelled o) z) (sym ty) keeps_type in
-    let own = typed_line l.blank_lines s level (has_block k) c f' l.keep_spelling o (option_map unspelled o) (option_map identifier_tree M.ty) f (option_map node_format_tree M.format) type spaced typed in
+    let own = typed_line l.blank_lines s level (has_block k) c f' (keeping l) o (option_map unspelled o) (option_map identifier_tree M.ty) f (option_map node_format_tree M.format) type spaced typed in
     subst (NodeStays s P) (ap (λ (o : Option KdlDocument). node (head_tree M) (children_of (option_map document_tree o))) (sym kids) ∙ sym (node_tree_out m)) (
       own_reads l.blank_lines s ok level c (head_tree N) (head_tree M) (or_empty (option_map node_format_tree N.format)) k
           (subst NameReadsIf (sym ty) (respelled_reads_if l.keep_spelling (option_map identifier_tree N.ty) (option_map unspelled (option_map identifier_tree N.ty)) (with_spelling_if kt (option_map identifier_tree N.ty)) refl (scalars N.ty) keeps_type))

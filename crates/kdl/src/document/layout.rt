@@ -2,11 +2,11 @@
 
 ghost use Rattle.kdl.specs.Internal.Spacing.{DocumentIsSpaced, IsAround};
 ghost use Rattle.kdl.specs.Layout.{DocumentKeepsReading, DocumentSpaced, IndentsBySpaces, document_bare};
-ghost use Rattle.kdl.specs.LaysOut.{FormatsDocument, KeepsDocument, RereadsDocument};
+ghost use Rattle.kdl.specs.LaysOut.{FormatsDocument, KeepsComments, KeepsDocument, RereadsDocument};
 ghost use Rattle.kdl.specs.ReadsBack.{DocumentReadsBack};
 ghost use Rattle.kdl.specs.Tree.{document_tree, nodes_tree};
 ghost use Rattle.kdl.specs.declared.document.KdlDocument.{out-KdlDocument};
-ghost use Rattle.kdl_layout.specs.Config.{defaults, indentation, settings, without_comments};
+ghost use Rattle.kdl_layout.specs.Config.{defaults, indentation, keeping, nothing, settings, without_comments};
 ghost use Rattle.kdl_layout.specs.Formatted.{or_empty_document};
 ghost use Rattle.kdl_layout.specs.OneLine.{is_on_one_line};
 ghost use Rattle.kdl_layout.specs.Spaced.{IsSpacedBraced};
@@ -91,6 +91,7 @@ impl KdlDocument {
             config: *config,
             blank_lines: 0,
             keep_spelling: false,
+            keep_inner_comments: false,
             keep_one_line: false,
         };
         self.autoformat_layout(&layout)
@@ -101,8 +102,9 @@ impl KdlDocument {
     /// start and at the end of the document, and of a block. If the layout keeps spellings, a value, a name, a key or a
     /// type keeps its spelling if this means what it did, comments inside a type, after it and around `=` stay, and so
     /// does a text before an entry that continues the line; an entry that is flagged to keep its form is laid out as
-    /// without that. If the layout keeps blocks on one line, a block that prints one line, without comments and without
-    /// blocks in it, is put on one line: `{ a 1; b 2 }`, or `{}` without nodes.
+    /// without that. If the layout keeps comments inside entries and types, these stay even if spellings do not. If the
+    /// layout keeps blocks on one line, a block that prints one line, without comments and without blocks in it, is put on
+    /// one line: `{ a 1; b 2 }`, or `{}` without nodes.
     ///
     /// Returns an error as `autoformat_config` does, or if a number of newlines would exceed `usize::MAX`. What it leaves
     /// is the same.
@@ -119,9 +121,10 @@ impl KdlDocument {
         ensures keeps { KeepsDocument (settings layout.now.config) self.old self.new result }
         ensures rereads { IndentsBySpaces (settings layout.now.config)
             → RereadsDocument (settings layout.now.config) self.old self.new result }
+        ensures comments { KeepsComments layout.now self.old self.new result }
         ensures formatted { OnOk result (DocumentSpaced layout.now self.old self.new) }
         ensures unspaced { layout.now.blank_lines ≡ 0
-            → layout.now.keep_spelling ≡ false → layout.now.keep_one_line ≡ false
+            → keeping layout.now ≡ nothing → layout.now.keep_one_line ≡ false
             → FormatsDocument (settings layout.now.config) self.old self.new result }
     {
         self.lay_out(layout)

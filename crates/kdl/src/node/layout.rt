@@ -4,12 +4,12 @@ ghost use Rattle.kdl.specs.Change.{with_nodes};
 ghost use Rattle.kdl.specs.Iterators.{child_nodes, nodes_in};
 ghost use Rattle.kdl.specs.Internal.Spacing.{BlockIsSpaced, NodeIsSpaced, NodesAreSpaced, IsSpacedBut, PassesAt, StayAs, StaysAs, braces_of, enclosed, filled_block, lined, with_texts};
 ghost use Rattle.kdl.specs.Layout.{IndentsBySpaces, NodeSpaced, node_bare};
-ghost use Rattle.kdl.specs.LaysOut.{FormatsNode, KeepsNode, RereadsNode};
+ghost use Rattle.kdl.specs.LaysOut.{FormatsNode, KeepsNode, NodeKeepsComments, RereadsNode};
 ghost use Rattle.kdl.specs.Tree.{document_tree, node_tree};
 ghost use Rattle.kdl.specs.declared.document.KdlDocument.{out-KdlDocument};
 ghost use Rattle.kdl.specs.declared.node.KdlNode.{out-KdlNode};
 ghost use Rattle.kdl_layout.specs.Blank.{at_start};
-ghost use Rattle.kdl_layout.specs.Config.{defaults, indentation, settings, without_comments};
+ghost use Rattle.kdl_layout.specs.Config.{defaults, indentation, keeping, nothing, settings, without_comments};
 ghost use Rattle.kdl_layout.specs.Formatted.{bare_node, or_empty};
 ghost use Rattle.kdl_layout.specs.OneLine.{entry_on_line, line_on_line, maybe_on_line, name_on_line, node_on_line};
 ghost use Rattle.kdl_grammar.specs.Tree.{Node, children_of};
@@ -98,6 +98,7 @@ impl KdlNode {
             config: *config,
             blank_lines: 0,
             keep_spelling: false,
+            keep_inner_comments: false,
             keep_one_line: false,
         };
         self.autoformat_layout(&layout)
@@ -121,9 +122,10 @@ impl KdlNode {
         ensures keeps { KeepsNode (settings layout.now.config) self.old self.new result }
         ensures rereads { IndentsBySpaces (settings layout.now.config)
             → RereadsNode (settings layout.now.config) self.old self.new result }
+        ensures comments { NodeKeepsComments layout.now self.old self.new result }
         ensures formatted { OnOk result (NodeSpaced layout.now self.old self.new) }
         ensures unspaced { layout.now.blank_lines ≡ 0
-            → layout.now.keep_spelling ≡ false → layout.now.keep_one_line ≡ false
+            → keeping layout.now ≡ nothing → layout.now.keep_one_line ≡ false
             → FormatsNode (settings layout.now.config) self.old self.new result }
     {
         self.lay_out_alone(layout)

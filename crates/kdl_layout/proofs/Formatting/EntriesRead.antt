@@ -1,6 +1,7 @@
 -- An entry that is laid out reads back where it did before.
-use Rattle.kdl_layout.proofs.Common.{◌≡◌, zero, suc, Bool, true, false, ◌||◌, List, [], ◌∷◌, refl, sym, ap, subst, ◌∙◌, Option, Some, None, option_map, arith, ◌++◌, append_assoc, All-cons, All-nil, All, Text, ValueEnd, Entry, EntryFormat, with_keep, autoformatted, entry_data, Identifier, IsPlainValue, MaybeType, untyped, typed, parens, value, IsEntry, property, argument, EntryLeading, print_identifier, print_key, print_type, EntryReads, Gap, Nodes, none, first, newline_gap, before_entry, PlaceItems, tail, Settings, with_keep_if, newline_if_none, WrittenUnless, entry_leading, is_kept_format, KeptForm, HasSpellings, HasSpellingsUnless, IsSpelledEntry, TypeTexts, IsWellFormedEntry, following, IsFormattedEntry, Value, punctuation_end}
+use Rattle.kdl_layout.proofs.Common.{◌≡◌, zero, suc, Bool, true, false, ◌||◌, List, [], ◌∷◌, refl, sym, ap, subst, ◌∙◌, Option, Some, None, option_map, arith, ◌++◌, append_assoc, All-cons, All-nil, All, Text, ValueEnd, Entry, EntryFormat, with_keep, autoformatted, entry_data, Identifier, IsPlainValue, MaybeType, untyped, typed, parens, value, IsEntry, property, argument, EntryLeading, print_identifier, print_key, print_type, EntryReads, Gap, Nodes, none, first, newline_gap, before_entry, PlaceItems, tail, Settings, keeps_texts, Keeping, with_keep_if, newline_if_none, WrittenUnless, entry_leading, is_kept_format, KeptForm, HasSpellings, HasSpellingsIf, HasSpellingsUnless, IsSpelledEntry, TypeTexts, IsWellFormedEntry, following, IsFormattedEntry, Value, punctuation_end}
 use Rattle.kdl_grammar.proofs.Laying.LaidIsDerived.{first_entry}
+use Rattle.kdl_layout.specs.Config as Config
 use Rattle.kdl_layout.specs.KeptForm.{KeepsReading, EntriesKeepReading}
 use Rattle.kdl_layout.proofs.Formatting.FormattedUnique.{entry_keeps_none}
 use Rattle.kdl_layout.proofs.Loops.{Each}
@@ -135,44 +136,48 @@ plain_stays s e m f w h = (
   where
     go : (b : Bool) → is_kept_format (with_keep_if s.entry_autoformate_keep e).format ≡ b → EntryReads m
     go true y = kept_reads true refl s e m y f h.1
-    go false y = written_reads s e m (written_entry s false e m m f refl y w)
+    go false y = written_reads s e m (written_entry s Config.nothing e m m f refl y w)
 
 -- an entry that has its spellings back is not flagged by the next layout either, unless it keeps its form
 still_none : (o : Option EntryFormat) → is_kept_format (option_map with_keep o) ≡ false → o ≡ None
 still_none None h = refl
 still_none (Some f) h = absurd cc
 
-formless_left : (s : Settings) (e : Entry) (o p q : Option EntryFormat) → o ≡ None → p ≡ None → KeptForm s e o p q → q ≡ None
-formless_left s e _ p _ x h (KeptForm.kept d k) = absurd cc
-formless_left s e _ p _ x h (KeptForm.other n) = h
-formless_left s e _ p _ x h KeptForm.formless = h
+formless_left : (keep : Bool) (s : Settings) (e : Entry) (o p q : Option EntryFormat) → o ≡ None → p ≡ None → KeptForm keep s e o p q → q ≡ None
+formless_left keep s e _ p _ x h (KeptForm.kept y d k) = absurd cc
+formless_left keep s e _ p _ x h (KeptForm.bare n k) = h
+formless_left keep s e _ p _ x h (KeptForm.other n k w) = absurd cc
+formless_left keep s e _ p _ x h KeptForm.formless = h
 
-spelled_unflagged : (s : Settings) (b out : Bool) (e m e' : Entry) (t : Text)
+spelled_unflagged : (keep : Bool) (s : Settings) (b out : Bool) (e m e' : Entry) (t : Text)
     → WrittenUnless (is_kept_format (with_keep_if b e).format || out) (PlaceItems (before_entry false) (entry_leading (with_keep_if b e).format)) tail t
-    → m ≡ following t (autoformatted (with_keep_if b e)) → is_kept_format (with_keep_if b e).format ≡ false → HasSpellings s e m e' → is_kept_format e'.format ≡ false → is_kept_format (with_keep_if b e').format ≡ false
-spelled_unflagged s false out e m e' t k q n h left = left
-spelled_unflagged s true out e m e' t k q n h left =
+    → m ≡ following t (autoformatted (with_keep_if b e)) → is_kept_format (with_keep_if b e).format ≡ false → HasSpellings keep s e m e' → is_kept_format e'.format ≡ false → is_kept_format (with_keep_if b e').format ≡ false
+spelled_unflagged keep s false out e m e' t k q n h left = left
+spelled_unflagged keep s true out e m e' t k q n h left =
     let none = still_none e.format n in
     let k' = subst (λ (o : Option EntryFormat). WrittenUnless (is_kept_format (option_map with_keep o) || out) (PlaceItems (before_entry false) (entry_leading (option_map with_keep o))) tail t) none k in
     let empty = none_before out t k' in
     let q' = q ∙ ap (λ (o : Option EntryFormat). following t (autoformatted (record e { format = option_map with_keep o }))) none ∙ ap (λ (u : Text). following u (autoformatted (record e { format = None }))) empty in
-    let formless = formless_left s e e.format m.format e'.format none (ap (λ (x : Entry). x.format) q') h.format in
+    let formless = formless_left keep s e e.format m.format e'.format none (ap (λ (x : Entry). x.format) q') h.format in
     ap (λ (o : Option EntryFormat). is_kept_format (option_map with_keep o)) formless
 
 clash : (b : Bool) → b ≡ false → b ≡ true → ⊥
 clash b x y = let z = sym x ∙ y in cc
 
 -- an entry that is laid out
-pub laid_stays : (keep : Bool) (s : Settings) (e e' : Entry) → IsSpelledEntry keep s e e' → IsWellFormedEntry (entry_data e) → Stays s e → Stays s e'
-laid_stays false s e e' (m, f, r) w h = subst (Stays s) (sym r) (plain_stays s e m f w h)
-laid_stays true s e e' (m, f, r) w h = go (is_kept_format (with_keep_if s.entry_autoformate_keep e).format) refl r
+pub laid_stays : (keep : Keeping) (s : Settings) (e e' : Entry) → IsSpelledEntry keep s e e' → IsWellFormedEntry (entry_data e) → Stays s e → Stays s e'
+laid_stays keep s e e' (m, f, r) w h = choose (keeps_texts keep) r
   where
-    go : (b : Bool) → is_kept_format (with_keep_if s.entry_autoformate_keep e).format ≡ b → HasSpellingsUnless b s e m e' → Stays s e'
+    go : (b : Bool) → is_kept_format (with_keep_if s.entry_autoformate_keep e).format ≡ b → HasSpellingsUnless b keep.spelling s e m e' → Stays s e'
     go true y x = subst (Stays s) (sym x) (plain_stays s e m f w h)
     go false y x =
-        let k = written_entry s true e m e' f r y w in
-        let u = spelled_unflagged s s.entry_autoformate_keep s.no_comments e m e' f.0 f.1 f.2 y x k.form.prints.unflagged in
+        let k = written_entry s keep e m e' f r y w in
+        let u = spelled_unflagged keep.spelling s s.entry_autoformate_keep s.no_comments e m e' f.0 f.1 f.2 y x k.form.prints.unflagged in
         (written_reads s e e' k, λ z. absurd (clash _ u z))
+
+    choose : (b : Bool) → HasSpellingsIf b keep.spelling s e m e' → Stays s e'
+    choose false x = subst (Stays s) (sym x) (plain_stays s e m f w h)
+    choose true x = go (is_kept_format (with_keep_if s.entry_autoformate_keep e).format) refl x
 
 -- entries, one by one
 pub all_stay : (s : Settings) (es : List Entry) → All EntryReads es → EntriesKeepReading s es → Each (Stays s) es

@@ -1,5 +1,5 @@
 -- A node or document of which a part is laid out reads back where it did before.
-use Rattle.kdl_layout.proofs.Common.{◌≡◌, ℕ, ◌+◌, Bool, true, false, List, [], ◌∷◌, ◌++◌, refl, sym, subst, Option, Some, None, append_assoc, All, list_all, Text, is_space, ValueEnd, SourceSpan, print_identifier, print_type, Identifier, named, IsNode, AfterName, no_gap, BeforeChildren, Rests, Anything, TextEnd, EntryReads, HeadReads, AddsNothing, EndReads, NodeReads, reads, ChildrenRead, a_block, NodesRead, no_node, last_node, next_node, ContentReads, two_texts, with_nodes, BlockReads, DocumentReads, NodeFormat, DocumentFormat, Head, node, Children, no_children, children, document, Nodes, none, first, gap_nodes, newline_gap, GapItems, before_block, at_start, past_node, Settings, indentation, or_empty_document, newline_if_none, KeptBeforeBlock, last_place, without_bom, TypeTexts, with_type_texts, AreRespelledNodes, SpacedLines, SpacesTexts, IsSpacedContent, IsSpacedBraced, AreSpacedNodes, NodeTexts, line_of, has_block, Before}
+use Rattle.kdl_layout.proofs.Common.{◌≡◌, Keeping, ℕ, ◌+◌, Bool, true, false, List, [], ◌∷◌, ◌++◌, refl, sym, subst, Option, Some, None, append_assoc, All, list_all, Text, is_space, ValueEnd, SourceSpan, print_identifier, print_type, Identifier, named, IsNode, AfterName, no_gap, BeforeChildren, Rests, Anything, TextEnd, EntryReads, HeadReads, AddsNothing, EndReads, NodeReads, reads, ChildrenRead, a_block, NodesRead, no_node, last_node, next_node, ContentReads, two_texts, with_nodes, BlockReads, DocumentReads, NodeFormat, DocumentFormat, Head, node, Children, no_children, children, document, Nodes, none, first, gap_nodes, newline_gap, GapItems, before_block, at_start, past_node, Settings, indentation, or_empty_document, newline_if_none, KeptBeforeBlock, last_place, without_bom, TypeTexts, with_type_texts, AreRespelledNodes, SpacedLines, SpacesTexts, IsSpacedContent, IsSpacedBraced, AreSpacedNodes, NodeTexts, line_of, has_block, Before}
 use Rattle.kdl_entry.specs.Data as data'
 use Rattle.kdl_grammar.specs.Data as nodes'
 use Rattle.kdl_grammar.specs.Print.{trailing_text}
@@ -37,9 +37,9 @@ place_joined l s c b r = simp append_assoc
 
 -- nodes that are laid out, with their spellings or not
 abbrev pub AreLined : ℕ → Settings → ℕ → Before → Nodes → Nodes → Type 0
-AreLined number s level b ns xs = (keep : Bool) × SpelledNodes number s keep level b ns xs
+AreLined number s level b ns xs = (keep : Keeping) × SpelledNodes number s keep level b ns xs
 
-pub lined : (number : ℕ) (s : Settings) (keep : Bool) (level : ℕ) (b : Before) (ns ms xs : Nodes) → AreSpacedNodes number s level b ns ms → AreRespelledNodes keep s ns ms xs → AreLined number s level b ns xs
+pub lined : (number : ℕ) (s : Settings) (keep : Keeping) (level : ℕ) (b : Before) (ns ms xs : Nodes) → AreSpacedNodes number s level b ns ms → AreRespelledNodes keep s ns ms xs → AreLined number s level b ns xs
 lined number s keep level b ns ms xs f r = (keep, spelled_nodes number s keep level b ns ms xs f r)
 
 -- the place before the terminator

@@ -1,5 +1,5 @@
 -- A block on one line is on one line again once it is laid out again.
-use Rattle.kdl_layout.proofs.Common.{◌≡◌, ℕ, zero, suc, ◌+◌, Bool, true, false, [], ◌∷◌, ◌++◌, refl, sym, ap, subst, ◌∙◌, Option, None, Some, ◌||◌, List, option_map, and_parts, both_true, list_all, ◌&&◌, not, is_some, if◌then◌else◌, Text, SourceSpan, no_line_comment, NodeFormat, DocumentFormat, Head, Node, node, Children, no_children, children, Document, document, Nodes, none, first, GapItems, before_block, PlaceItems, before_entry, tail, at_start, blank_lines, past_items, past_node, read, Settings, indentation, or_empty, or_empty_document, newline_if_none, in_braces, DocumentKeepsNone, NodeKeepsNone, with_keep_if, ItemsIn, KeptEnd, EndItems, WrittenUnless, entry_leading, is_kept_format, IsLaidDocument, IsLaidNode, braces_in_line, braces_on_line, head_on_line, in_one_line, is_end, is_on_one_line, line_on_line, node_in_line, nodes_in_line, nodes_on_line, one_lined_node, one_lined_children, one_lined_document, one_lined_nodes, entry_on_line, form_on_line, maybe_on_line, name_on_line, only_spaces, plain_line, no_newline, IsTypedFormat, KeptTypeTexts, TypeTexts, node_type_texts, KeptSpelling, IsRespelled, IsRespelledIf, text_before, KeptLeading, KeepsForm, KeptForm, entry_type_texts, HasSpellings, HasSpellingsUnless, IsRespelledEntry, AreRespelledEntries, Passes, PassesFormat, PassesNode, PassesNodes, SpacedLines, SpacesContent, SpacesTexts, IsSpacedBraced, IsSpacedLine, NodeTexts, AreFormattedEntries, IsFormattedEntry, following, Entry, EntryFormat, Identifier, unspelled, kept, with_keep, autoformatted, autoformatted_format, Before, is_space}
+use Rattle.kdl_layout.proofs.Common.{◌≡◌, ℕ, zero, suc, ◌+◌, Bool, true, false, [], ◌∷◌, ◌++◌, refl, sym, ap, subst, ◌∙◌, Option, None, Some, ◌||◌, List, option_map, and_parts, both_true, list_all, ◌&&◌, not, is_some, if◌then◌else◌, Text, SourceSpan, no_line_comment, NodeFormat, DocumentFormat, Head, Node, node, Children, no_children, children, Document, document, Nodes, none, first, GapItems, before_block, PlaceItems, before_entry, tail, at_start, Keeping, keeps_texts, blank_lines, past_items, past_node, read, Settings, indentation, or_empty, or_empty_document, newline_if_none, in_braces, DocumentKeepsNone, NodeKeepsNone, with_keep_if, ItemsIn, KeptEnd, EndItems, WrittenUnless, entry_leading, is_kept_format, IsLaidDocument, IsLaidNode, braces_in_line, braces_on_line, head_on_line, in_one_line, is_end, is_on_one_line, line_on_line, node_in_line, nodes_in_line, nodes_on_line, one_lined_node, one_lined_children, one_lined_document, one_lined_nodes, entry_on_line, form_on_line, maybe_on_line, name_on_line, only_spaces, plain_line, no_newline, IsTypedFormat, KeptTypeTexts, TypeTexts, node_type_texts, KeptSpelling, IsRespelled, IsRespelledIf, text_before, KeptLeading, KeptLeadingIf, bare_inside, print_value, KeepsForm, KeptForm, entry_type_texts, HasSpellings, HasSpellingsIf, HasSpellingsUnless, IsRespelledEntry, AreRespelledEntries, Passes, PassesFormat, PassesNode, PassesNodes, SpacedLines, SpacesContent, SpacesTexts, IsSpacedBraced, IsSpacedLine, NodeTexts, AreFormattedEntries, IsFormattedEntry, following, Entry, EntryFormat, Identifier, unspelled, kept, with_keep, autoformatted, autoformatted_format, Before, is_space}
 use Rattle.kdl_layout.specs.OneLine.{maybe_form_on_line, spelling_on_line}
 use Rattle.kdl_layout.proofs.Rewriting.LinesAgain.{newline_items, spaces_items}
 use Rattle.kdl_layout.proofs.Keeping.GapFronts.{alone, joined, newline_if, indented}
@@ -103,6 +103,11 @@ if_spelled None None None r h = refl
 if_spelled (Some i) (Some m) (Some i') r h = name_spelled i m i' r h
 if_spelled _ _ _ r h = absurd assumption
 
+-- with its spelling or without
+if_kept : (keep : Bool) (o m o' : Option Identifier) → IsRespelledIf keep o m o' → maybe_on_line o ≡ true → maybe_on_line m ≡ true → maybe_on_line o' ≡ true
+if_kept false o m o' r h k = ap maybe_on_line (same_if o m o' r) ∙ k
+if_kept true o m o' r h k = if_spelled o m o' r h
+
 type_line : (keep : Bool) (o m o' : Option Identifier) → m ≡ option_map unspelled o → IsRespelledIf keep o m o' → maybe_on_line o ≡ true → maybe_on_line o' ≡ true
 type_line false o m o' e r h = ap maybe_on_line (same_if o m o' r ∙ e) ∙ no_spelling o
 type_line true o m o' e r h = if_spelled o m o' r h
@@ -117,12 +122,29 @@ leading_line : {s : Settings} {old laid r : Text} → only_spaces old ≡ true �
 leading_line h k (KeptLeading.continued c) = absurd (spaces_continue_nothing h c)
 leading_line h k (KeptLeading.other n) = k
 
-form_line : (s : Settings) (e : Entry) (f g : EntryFormat) (laid : Text) → FormParts f → only_spaces laid ≡ true → KeepsForm s e f laid g → form_on_line g ≡ true
-form_line s e f g laid p h k =
+leading_line_if : (keep : Bool) (s : Settings) (old laid r : Text) → only_spaces old ≡ true → only_spaces laid ≡ true → KeptLeadingIf keep s old laid r → only_spaces r ≡ true
+leading_line_if true s old laid r h k l = leading_line h k l
+leading_line_if false s old laid r h k l = ap only_spaces l ∙ k
+
+-- and nothing inside
+inside_line : (keep : Bool) (s : Settings) (e : Entry) (f g : EntryFormat) (laid v : Text) → FormParts f → KeepsForm keep s e f laid v g → bare_inside g ≡ true
+inside_line keep s e f g laid v p k =
     let typed = not s.no_comments && is_some e.ty in
     let keyed = not s.no_comments && is_some e.name in
     let types = types_bare_if typed (entry_type_texts f) (entry_type_texts g) p.types k.ty in
-    let leading = leading_line p.leading h k.leading in
+    let before_name : g.before_ty_name ≡ [] = ap (λ (x : TypeTexts). x.before_name) types in
+    let after_name : g.after_ty_name ≡ [] = ap (λ (x : TypeTexts). x.after_name) types in
+    let after : g.after_ty ≡ [] = ap (λ (x : TypeTexts). x.after) types in
+    let after_key = place_bare_if keyed f.after_key g.after_key p.after_key k.after_key in
+    let after_eq = place_bare_if keyed f.after_eq g.after_eq p.after_eq k.after_eq in
+    rw (before_name, after_name, after, after_key, after_eq) refl
+
+form_line : (keep : Bool) (s : Settings) (e : Entry) (f g : EntryFormat) (laid : Text) → FormParts f → only_spaces laid ≡ true → KeepsForm keep s e f laid f.value_repr g → form_on_line g ≡ true
+form_line keep s e f g laid p h k =
+    let typed = not s.no_comments && is_some e.ty in
+    let keyed = not s.no_comments && is_some e.name in
+    let types = types_bare_if typed (entry_type_texts f) (entry_type_texts g) p.types k.ty in
+    let leading = leading_line_if keep s f.leading laid g.leading p.leading h k.leading in
     let before_name : g.before_ty_name ≡ [] = ap (λ (x : TypeTexts). x.before_name) types in
     let after_name : g.after_ty_name ≡ [] = ap (λ (x : TypeTexts). x.after_name) types in
     let after : g.after_ty ≡ [] = ap (λ (x : TypeTexts). x.after) types in
@@ -131,9 +153,11 @@ form_line s e f g laid p h k =
     let value : no_newline g.value_repr ≡ true = ap no_newline k.value_repr ∙ p.value in
     rw (leading, k.trailing, after, before_name, after_name, after_key, after_eq, value) refl
 
-form_spelled : {s : Settings} {e : Entry} (o p q : Option EntryFormat) → KeptForm s e o p q → maybe_form_on_line o ≡ true → maybe_form_on_line p ≡ true → maybe_form_on_line q ≡ true
-form_spelled {s} {e} _ p _ (KeptForm.kept {f = f} {g = g} d x) h k = form_line s e f g (text_before p) (form_parts f h) (before_line p k) x
-form_spelled _ p _ (KeptForm.other n) h k = k
+form_spelled : {keep : Bool} {s : Settings} {e : Entry} (o p q : Option EntryFormat) → KeptForm keep s e o p q → maybe_form_on_line o ≡ true → maybe_form_on_line p ≡ true → maybe_form_on_line q ≡ true
+form_spelled {keep} {s} {e} _ p _ (KeptForm.kept {f = f} {g = g} y d x) h k = form_line keep s e f g (text_before p) (form_parts f h) (before_line p k) x
+form_spelled _ p _ (KeptForm.bare n x) h k = k
+form_spelled {keep} {s} {e} _ p _ (KeptForm.other {f = f} {g = g} n x w) h k =
+    let z : true ≡ false = sym (inside_line keep s e f g (text_before p) (print_value e.value) (form_parts f h) x) ∙ w in absurd cc
 form_spelled _ p _ KeptForm.formless h k = k
 
 -- an entry
@@ -148,22 +172,23 @@ entry_parts e h =
     let n = and_parts (maybe_on_line e.name) (maybe_on_line e.ty) w.0 in
     record { name = n.0; ty = n.1; format = w.1 }
 
-entry_spelled : (s : Settings) (e m e' : Entry) → HasSpellings s e m e' → EntryParts e → entry_on_line m ≡ true → entry_on_line e' ≡ true
-entry_spelled s e m e' r p k =
-    both_true (both_true (if_spelled e.name m.name e'.name r.name p.name) (if_spelled e.ty m.ty e'.ty r.ty p.ty)) (form_spelled e.format m.format e'.format r.format p.format (entry_parts m k).format)
+entry_spelled : (keep : Bool) (s : Settings) (e m e' : Entry) → HasSpellings keep s e m e' → EntryParts e → entry_on_line m ≡ true → entry_on_line e' ≡ true
+entry_spelled keep s e m e' r p k =
+    let q = entry_parts m k in
+    both_true (both_true (if_kept keep e.name m.name e'.name r.name p.name q.name) (if_kept keep e.ty m.ty e'.ty r.ty p.ty q.ty)) (form_spelled e.format m.format e'.format r.format p.format q.format)
 
-module _ (s : Settings) (keep : Bool) where
+module _ (s : Settings) (keep : Keeping) where
   entry_line : (e m e' : Entry) → IsFormattedEntry s e m → IsRespelledEntry keep s e m e' → entry_on_line e ≡ true → entry_on_line e' ≡ true
-  entry_line e m e' f r h = go keep r
+  entry_line e m e' f r h = go (keeps_texts keep) r
     where
       laid : entry_on_line m ≡ true
       laid = entry_again s e m f h
 
-      unless : (b : Bool) → HasSpellingsUnless b s e m e' → entry_on_line e' ≡ true
+      unless : (b : Bool) → HasSpellingsUnless b keep.spelling s e m e' → entry_on_line e' ≡ true
       unless true r = ap entry_on_line r ∙ laid
-      unless false r = entry_spelled s e m e' r (entry_parts e h) laid
+      unless false r = entry_spelled keep.spelling s e m e' r (entry_parts e h) laid
 
-      go : (keep : Bool) → IsRespelledEntry keep s e m e' → entry_on_line e' ≡ true
+      go : (b : Bool) → HasSpellingsIf b keep.spelling s e m e' → entry_on_line e' ≡ true
       go false r = ap entry_on_line r ∙ laid
       go true r = unless (is_kept_format (with_keep_if s.entry_autoformate_keep e).format) r
 
@@ -178,7 +203,7 @@ module _ (s : Settings) (keep : Bool) where
   head_spelled : {number : ℕ} (level : ℕ) (has last : Bool) (b : Before) (h x : Head) → SpelledHead number s keep level has b h x → HeadParts last h → (maybe_on_line x.ty && name_on_line x.name && list_all entry_on_line x.entries) ≡ true
   head_spelled level has last b h x f p =
       let m = f.laid in
-      both_true (both_true (type_line keep h.ty m.ty x.ty f.spaced.ty f.respelled.ty p.ty) (name_line keep h.name m.name x.name f.spaced.name f.respelled.name p.name))
+      both_true (both_true (type_line keep.spelling h.ty m.ty x.ty f.spaced.ty f.respelled.ty p.ty) (name_line keep.spelling h.name m.name x.name f.spaced.name f.respelled.name p.name))
       (entries_line h.entries m.entries x.entries f.spaced.entries f.respelled.entries p.entries)
 
 format_again : (last : Bool) → line_on_line last (node_in_line last) ≡ true
@@ -190,7 +215,7 @@ end_again : (ns : Nodes) → is_end (nodes_in_line ns) ≡ is_end ns
 end_again none = refl
 end_again (first (node h k) ns) = refl
 
-nodes_again : {number : ℕ} {s : Settings} {keep : Bool} {level : ℕ} {b : Before} {ns xs : Nodes} → nodes_on_line ns ≡ true → SpelledNodes number s keep level b ns xs → nodes_on_line (nodes_in_line xs) ≡ true
+nodes_again : {number : ℕ} {s : Settings} {keep : Keeping} {level : ℕ} {b : Before} {ns xs : Nodes} → nodes_on_line ns ≡ true → SpelledNodes number s keep level b ns xs → nodes_on_line (nodes_in_line xs) ≡ true
 nodes_again h nodeless = refl
 nodes_again h (one_more (spelled f (spelled_block c at nodes)) p fs) = absurd cc
 nodes_again {s = s} {keep = keep} h (one_more {level = level} {b = b} {ns = ns} {xs = xs} (spelled {h = y} {x = x} f blockless) p fs) =
@@ -208,7 +233,7 @@ and_false true b c e = rw e refl
 and_false false b c e = refl
 
 -- what is on one line stays on one line
-module _ {number : ℕ} {s : Settings} {spelling : Bool} (keep : Bool) where
+module _ {number : ℕ} {s : Settings} {spelling : Keeping} (keep : Bool) where
   mutual
     node_same : {level : ℕ} {b : Before} {n x : Node} → SpelledNode number s spelling level b n x → one_lined_node keep (one_lined_node keep n x) x ≡ one_lined_node keep n x
     node_same (spelled {x = x} f kids) = ap (node x) (children_same kids)
@@ -230,7 +255,7 @@ module _ {number : ℕ} {s : Settings} {spelling : Bool} (keep : Bool) where
     nodes_same nodeless = refl
     nodes_same (one_more f p fs) = let a = node_same f in let b = nodes_same fs in λ i. first (a i) (b i)
 
-document_same : (number : ℕ) (s : Settings) (spelling keep : Bool) (level : ℕ) (d x : Document) → SpelledDocument number s spelling level d x → one_lined_document keep (one_lined_document keep d x) x ≡ one_lined_document keep d x
+document_same : (number : ℕ) (s : Settings) (spelling : Keeping) (keep : Bool) (level : ℕ) (d x : Document) → SpelledDocument number s spelling level d x → one_lined_document keep (one_lined_document keep d x) x ≡ one_lined_document keep d x
 document_same number s spelling keep level (document f at ns) (document g at' xs) (b, c, same, nodes) = ap (document g at') (nodes_same keep nodes)
 
 -- layout makes the same of a block on one line as of the same nodes on lines of their own
@@ -287,7 +312,7 @@ module _ (number : ℕ) (s : Settings) where
     last_plain b (first (node h no_children) (first m ns)) p = last_plain b (first m ns) p.1
 
     -- nodes without blocks
-    node_mid : (spelling last : Bool) (b c : Before) (h x : Head) → h.format ≡ Some (plain_line (indentation s level)) → SpelledHead number s spelling level false c (record h { format = Some (node_in_line last) }) x
+    node_mid : (spelling : Keeping) (last : Bool) (b c : Before) (h x : Head) → h.format ≡ Some (plain_line (indentation s level)) → SpelledHead number s spelling level false c (record h { format = Some (node_in_line last) }) x
         → Quiet number b → Quiet number c → SpelledHead number s spelling level false b h x
     node_mid spelling last b c h x e f q q' =
         let (k, w, is) = f.spaced.format in
@@ -300,12 +325,12 @@ module _ (number : ℕ) (s : Settings) where
             ty = r.ty;
             name = r.name;
             entries = r.entries;
-            format = typed_as (spelling && not s.no_comments && is_some h.ty) (node_in_line last) (or_empty h.format) f.laid.format x.format (sym (ap (λ (o : Option NodeFormat). node_type_texts (or_empty o)) e)) r.format;
+            format = typed_as (keeps_texts spelling && not s.no_comments && is_some h.ty) (node_in_line last) (or_empty h.format) f.laid.format x.format (sym (ap (λ (o : Option NodeFormat). node_type_texts (or_empty o)) e)) r.format;
             span = r.span;
           };
         }
 
-    nodes_mid : (spelling : Bool) (ns : Nodes) {b c : Before} {ys : Nodes} → ArePlain (indentation s level) ns → SpelledNodes number s spelling level c (nodes_in_line ns) ys → Quiet number b → Quiet number c → SpelledNodes number s spelling level b ns ys
+    nodes_mid : (spelling : Keeping) (ns : Nodes) {b c : Before} {ys : Nodes} → ArePlain (indentation s level) ns → SpelledNodes number s spelling level c (nodes_in_line ns) ys → Quiet number b → Quiet number c → SpelledNodes number s spelling level b ns ys
     nodes_mid spelling none p nodeless q q' = nodeless
     nodes_mid spelling (first (node h (children d)) ns) p f q q' = absurd p
     nodes_mid spelling (first (node h no_children) ns) {b = b} p (one_more {b = c} {b' = c'} (spelled {x = x} f blockless) r fs) q q' =
@@ -343,7 +368,7 @@ module _ (number : ℕ) (s : Settings) (ok : list_all is_space s.indent ≡ true
   content_as : (level : ℕ) (ns ns' : Nodes) (f : DocumentFormat) (b : Before) (x y : Text) → SpacesContent number s level (one_lined_nodes keep ns ns') f b x y → SpacesContent number s level ns' f b x y
   content_as level ns ns' f b x y k = record { last = k.last; after_it = k.after_it; leading = k.leading; passes = nodes_pass b k.last ns ns' k.passes; trailing = k.trailing }
 
-  module _ (spelling : Bool) where
+  module _ (spelling : Keeping) where
     -- a block on one line
     line_as : (level : ℕ) (b : Before) (o : Option DocumentFormat) (ns : Nodes) (g : Option DocumentFormat) (at : SourceSpan) (xs : Nodes) {j : Children} → braces_on_line o ≡ true → nodes_on_line ns ≡ true
         → IsSpacedBraced number s level ns (or_empty_document o) b g → SpelledNodes number s spelling (level + 1) b ns xs
@@ -400,7 +425,7 @@ module _ (number : ℕ) (s : Settings) (ok : list_all is_space s.indent ≡ true
     document_as level (document f at ns) (document g at' xs) (document h ct ys) (b, c, same, nodes) (b', (x, y, w, e), same', nodes') =
         (b', (x, y, content_as level ns xs (or_empty_document g) b' x y w, e ∙ ap (λ (t : Text). Some (record { leading = x; trailing = y ++ t })) (newline_same ns xs)), same', nodes_as nodes nodes')
 
-  module _ (flag : s.entry_autoformate_keep ≡ false) (spelling : Bool) where
+  module _ (flag : s.entry_autoformate_keep ≡ false) (spelling : Keeping) where
     -- a second layout changes nothing
     pub document_stays : (level : ℕ) (d x y : Document) → IsLaidDocument spelling keep number s level d x → DocumentKeepsNone d → IsLaidDocument spelling keep number s level x y → y ≡ x
     document_stays level d x y (r, (m, f, q), e) bare (r2, (m2, g, q2), e2) =

@@ -1,5 +1,5 @@
 -- Of the texts of a node that is on one line, layout keeps no comment, and no blank line.
-use Rattle.kdl_layout.proofs.Common.{◌≡◌, ℕ, zero, suc, ◌+◌, ◌-◌, ◌==◌, Bool, true, false, List, [], ◌∷◌, ◌++◌, refl, ap, subst, ◌∙◌, Option, Some, arith, nat_tests, and_parts, eqb-true, list_all, list_any, if◌then◌else◌, ◌&&◌, min, max, Text, is_newline_char, times, LineComment, no_line_comment, Identifier, NodeFormat, Head, node, Children, no_children, children, Nodes, none, first, Item, GapItems, Place, before_block, PlaceItems, tail, at_start, blank_lines, empty_lines, newlines, one_if, past_node, read, spaced_lines, Settings, indentation, or_empty, EndItems, ItemsIn, KeptEnd, WrittenUnless, end_comment, end_space, without_bom, end_on_line, head_on_line, is_end, line_on_line, nodes_on_line, maybe_on_line, name_on_line, entry_on_line, only_spaces, plain_line, TypeTexts, node_type_texts, with_type_texts, PassesNode, SpacedLines, SpacesTexts, NodeTexts, line_of, Before, Nothing, Thing, Last, is_space}
+use Rattle.kdl_layout.proofs.Common.{◌≡◌, Keeping, ℕ, zero, suc, ◌+◌, ◌-◌, ◌==◌, Bool, true, false, List, [], ◌∷◌, ◌++◌, refl, ap, subst, ◌∙◌, Option, Some, arith, nat_tests, and_parts, eqb-true, list_all, list_any, if◌then◌else◌, ◌&&◌, min, max, Text, is_newline_char, times, LineComment, no_line_comment, Identifier, NodeFormat, Head, node, Children, no_children, children, Nodes, none, first, Item, GapItems, Place, before_block, PlaceItems, tail, at_start, blank_lines, empty_lines, newlines, one_if, past_node, read, spaced_lines, Settings, indentation, or_empty, EndItems, ItemsIn, KeptEnd, WrittenUnless, end_comment, end_space, without_bom, end_on_line, head_on_line, is_end, line_on_line, nodes_on_line, maybe_on_line, name_on_line, entry_on_line, only_spaces, plain_line, TypeTexts, node_type_texts, with_type_texts, PassesNode, SpacedLines, SpacesTexts, NodeTexts, line_of, Before, Nothing, Thing, Last, is_space}
 use Rattle.kdl_layout.proofs.Listing.ItemsUnique.{end_items_det, gap_items_det, items_in_det, place_items_det}
 use Rattle.kdl_layout.proofs.Rewriting.LinesAgain.{spaces_items}
 use Rattle.kdl_layout.specs.Blank.{after_char, counts}
@@ -141,7 +141,7 @@ ArePlain ind none = Unit {0}
 ArePlain ind (first (node h no_children) ns) = (h.format ≡ Some (plain_line ind)) × ArePlain ind ns
 ArePlain ind (first (node h (children d)) ns) = ⊥
 
-pub are_plain : {number : ℕ} {s : Settings} {keep : Bool} {level : ℕ} {b : Before} {ns xs : Nodes} → nodes_on_line ns ≡ true → Quiet number b → SpelledNodes number s keep level b ns xs → ArePlain (indentation s level) xs
+pub are_plain : {number : ℕ} {s : Settings} {keep : Keeping} {level : ℕ} {b : Before} {ns xs : Nodes} → nodes_on_line ns ≡ true → Quiet number b → SpelledNodes number s keep level b ns xs → ArePlain (indentation s level) xs
 are_plain h q nodeless = tt
 are_plain h q (one_more (spelled f (spelled_block c at nodes)) p fs) = absurd cc
 are_plain {number} {s} h q (one_more {level = level} {b = b} {b' = b'} {ns = ns} (spelled {h = y} {x = x} f blockless) p fs) =

@@ -1,5 +1,5 @@
 -- A block that is put on one line reads back.
-use Rattle.kdl_layout.proofs.Common.{◌≡◌, ℕ, ◌+◌, Bool, true, false, List, [], ◌∷◌, refl, sym, ap, subst, ◌∙◌, Option, Some, append_assoc, and_parts, All-nil, All-cons, All, list_all, ◌&&◌, Text, is_space, Star, LineSpace, SourceSpan, Entry, Terminator, no_gap, line_space, IsDocument, AfterChildren, BeforeChildren, print_document, print_node, Rests, Anything, TextEnd, EntryReads, HeadReads, EndReads, NodeReads, reads, ChildrenRead, a_block, NodesRead, no_node, last_node, next_node, ContentReads, two_texts, with_nodes, BlockReads, DocumentReads, NodeFormat, DocumentFormat, Head, Node, node, node_data, Children, no_children, Document, document, document_data, Nodes, none, first, children_data, nodes_data, at_start, Settings, indentation, or_empty, or_empty_document, newline_if_none, NodeKeepsNone, DocumentKeepsNone, ChildrenKeepNone, NodesKeepNone, without_bom, IsLaidDocument, IsLaidNode, braces_in_line, braces_on_line, head_on_line, in_one_line, is_on_one_line, node_in_line, nodes_in_line, nodes_on_line, one_lined_node, one_lined_children, one_lined_document, one_lined_nodes, TypeTexts, with_type_texts, SpacesTexts, IsWellFormedNode, AreWellFormed, AreWellFormedChildren, NodeTexts, line_of, has_block, Before}
+use Rattle.kdl_layout.proofs.Common.{◌≡◌, Keeping, ℕ, ◌+◌, Bool, true, false, List, [], ◌∷◌, refl, sym, ap, subst, ◌∙◌, Option, Some, append_assoc, and_parts, All-nil, All-cons, All, list_all, ◌&&◌, Text, is_space, Star, LineSpace, SourceSpan, Entry, Terminator, no_gap, line_space, IsDocument, AfterChildren, BeforeChildren, print_document, print_node, Rests, Anything, TextEnd, EntryReads, HeadReads, EndReads, NodeReads, reads, ChildrenRead, a_block, NodesRead, no_node, last_node, next_node, ContentReads, two_texts, with_nodes, BlockReads, DocumentReads, NodeFormat, DocumentFormat, Head, Node, node, node_data, Children, no_children, Document, document, document_data, Nodes, none, first, children_data, nodes_data, at_start, Settings, indentation, or_empty, or_empty_document, newline_if_none, NodeKeepsNone, DocumentKeepsNone, ChildrenKeepNone, NodesKeepNone, without_bom, IsLaidDocument, IsLaidNode, braces_in_line, braces_on_line, head_on_line, in_one_line, is_on_one_line, node_in_line, nodes_in_line, nodes_on_line, one_lined_node, one_lined_children, one_lined_document, one_lined_nodes, TypeTexts, with_type_texts, SpacesTexts, IsWellFormedNode, AreWellFormed, AreWellFormedChildren, NodeTexts, line_of, has_block, Before}
 use Rattle.kdl_grammar.specs.Data as data'
 use Rattle.kdl_grammar.specs.ReadsBack.{BlockEnd, no_block, block}
 use Rattle.kdl_grammar.proofs.ReadingBack.Composing.{node_before}
@@ -38,7 +38,7 @@ module _ (ind : Text) (k : NodeTexts) (h : Head) where
   read_head e (reads {f = f} g x kids end) = subst (HeadReads h) (ap or_empty (sym g ∙ e)) x
 
 -- nodes on one line
-nodes_in_line_read : {number : ℕ} {s : Settings} {keep : Bool} {P : Rests} (g : DocumentFormat) {level : ℕ} {b : Before} {ns xs : Nodes} → nodes_on_line ns ≡ true → SpelledNodes number s keep level b ns xs → NodesRead P xs
+nodes_in_line_read : {number : ℕ} {s : Settings} {keep : Keeping} {P : Rests} (g : DocumentFormat) {level : ℕ} {b : Before} {ns xs : Nodes} → nodes_on_line ns ≡ true → SpelledNodes number s keep level b ns xs → NodesRead P xs
     → NodesRead (BlockEnd (Some g)) (nodes_in_line xs)
 nodes_in_line_read g h nodeless x = no_node
 nodes_in_line_read g h (one_more (spelled f (spelled_block c at nodes)) p fs) x = absurd cc
@@ -62,7 +62,7 @@ one_line_reads number s level b ns xs at h (keep, f) x = block (content_in_line 
 
 module _ (number : ℕ) (s : Settings) (ok : list_all is_space s.indent ≡ true) (keep : Bool) where
   -- a node that is laid out ends by itself
-  node_ends : {spelling : Bool} {P Q : Rests} {level : ℕ} {b : Before} {n x : Node} → SpelledNode number s spelling level b n x → NodeReads P (one_lined_node keep n x) → NodeReads Q (one_lined_node keep n x)
+  node_ends : {spelling : Keeping} {P Q : Rests} {level : ℕ} {b : Before} {n x : Node} → SpelledNode number s spelling level b n x → NodeReads P (one_lined_node keep n x) → NodeReads Q (one_lined_node keep n x)
   node_ends {Q = Q} (spelled {level = level} {b = b} {h = h} {x = x} {k = k} {l = l} f kids) (reads {f = g} e head below end) =
       let line = head_line level (has_block k) b h x f in
       let same : g ≡ with_type_texts line.types (line_of (indentation s level) line.texts) = ap or_empty (sym e ∙ line.is) in
@@ -70,7 +70,7 @@ module _ (number : ℕ) (s : Settings) (ok : list_all is_space s.indent ≡ true
       (subst (λ (z : NodeFormat). EndReads Q (one_lined_children keep k l) z) (sym same)
       (line_end number s ok level (has_block k) b (or_empty h.format) line.texts line.types line.kept (one_lined_children keep k l) (sym (same_block kids) ∙ sym (block_stays keep k l)) Q))
 
-  nodes_end : {spelling : Bool} {P Q : Rests} {level : ℕ} {b : Before} {ns xs : Nodes} → SpelledNodes number s spelling level b ns xs → NodesRead P (one_lined_nodes keep ns xs) → NodesRead Q (one_lined_nodes keep ns xs)
+  nodes_end : {spelling : Keeping} {P Q : Rests} {level : ℕ} {b : Before} {ns xs : Nodes} → SpelledNodes number s spelling level b ns xs → NodesRead P (one_lined_nodes keep ns xs) → NodesRead Q (one_lined_nodes keep ns xs)
   nodes_end nodeless x = no_node
   nodes_end (one_more f p nodeless) (last_node x) = last_node (node_ends f x)
   nodes_end (one_more f p (one_more g q fs)) (next_node x xs) = next_node x (nodes_end (one_more g q fs) xs)
@@ -88,7 +88,7 @@ module _ (number : ℕ) (s : Settings) (ok : list_all is_space s.indent ≡ true
   entries_read (e ∷ es) (e' ∷ es') f = All-cons EntryReads e' es' (written_reads s e e' f.0) (entries_read es es' f.1)
   entries_read _ _ f = absurd assumption
 
-  module _ (no_keep : s.entry_autoformate_keep ≡ false) (spelling : Bool) where
+  module _ (no_keep : s.entry_autoformate_keep ≡ false) (spelling : Keeping) where
     mutual
       node_reads : (Q : Rests) {level : ℕ} {b : Before} {n x : Node} → SpelledNode number s spelling level b n x → NodeKeepsNone n → IsWellFormedNode (node_data n) → NodeReads Q (one_lined_node keep n x)
       node_reads Q (spelled {level = level} {b = b} {h = h} {x = x} {k = k} {l = l} f kids) o w =

@@ -1,13 +1,13 @@
--- A second layout that keeps spellings changes nothing: layout does not look at them, and what was put back is put back again.
-use Rattle.kdl_layout.proofs.Common.{◌≡◌, ℕ, Bool, true, false, List, [], ◌∷◌, ◌++◌, refl, sym, ap, subst, ◌∙◌, Option, Some, None, option_map, list_all, ◌&&◌, ◌||◌, not, is_some, Text, Value, print_value, Identifier, EntryFormat, empty_format, Entry, unspelled, cleared, autoformatted, NodeFormat, Head, Node, node, Children, children, Document, document, Nodes, first, before_entry, PlaceItems, tail, Settings, with_keep_if, or_empty, or_empty_document, EntriesKeepNone, NodeKeepsNone, ChildrenKeepNone, DocumentKeepsNone, NodesKeepNone, ItemsIn, WrittenUnless, KeptBefore, is_kept_format, entry_leading, only_spaces, KeptSpelling, IsRespelled, IsRespelledIf, IsSpelling, text_before, KeptLeading, KeptPlaceIf, TypeTexts, KeptTypeTexts, KeptTypeTextsIf, KeepsForm, KeptForm, entry_type_texts, node_type_texts, with_type_texts, IsTypedFormat, HasSpellings, HasSpellingsUnless, IsRespelledEntry, AreRespelledEntries, IsSpacedLine, following, IsFormattedEntry, AreFormattedEntries, has_block, Before, is_space}
+-- A second layout that keeps spellings or comments inside entries changes nothing: layout does not look at them, and what was put back is put back again.
+use Rattle.kdl_layout.proofs.Common.{◌≡◌, ℕ, Bool, true, false, List, [], ◌∷◌, ◌++◌, refl, sym, ap, subst, ◌∙◌, Option, Some, None, option_map, list_all, ◌&&◌, ◌||◌, not, is_some, Text, Value, print_value, Identifier, EntryFormat, empty_format, Entry, unspelled, cleared, autoformatted, NodeFormat, Head, Node, node, Children, children, Document, document, Nodes, first, before_entry, PlaceItems, tail, Settings, with_keep_if, Keeping, keeps_texts, or_empty, or_empty_document, EntriesKeepNone, NodeKeepsNone, ChildrenKeepNone, DocumentKeepsNone, NodesKeepNone, ItemsIn, WrittenUnless, KeptBefore, is_kept_format, entry_leading, only_spaces, KeptSpelling, IsRespelled, IsRespelledIf, IsSpelling, text_before, KeptLeading, KeptLeadingIf, NothingInside, bare_inside, plain_format, KeptPlaceIf, TypeTexts, KeptTypeTexts, KeptTypeTextsIf, KeepsForm, KeptForm, entry_type_texts, node_type_texts, with_type_texts, IsTypedFormat, HasSpellings, HasSpellingsIf, HasSpellingsUnless, IsRespelledEntry, AreRespelledEntries, IsSpacedLine, following, IsFormattedEntry, AreFormattedEntries, has_block, Before, is_space}
 use Rattle.kdl_entry.specs.Tree.{unspelled_names}
 use Rattle.kdl_layout.proofs.Texts.{no_format}
 use Rattle.kdl_layout.proofs.Rewriting.PlacesAgain.{tail_spaced}
 use Rattle.kdl_layout.proofs.Formatting.FormattedUnique.{entry_keeps_none, tail_det, cleared_after}
 use Rattle.kdl_layout.proofs.Keeping.KeptReads.{kept_bare, kept_empty, spaces_in, none_before, before_entry_stays}
 use Rattle.kdl_layout.proofs.Respelling.Leaves.{cleared_same, entry_flag, unspelled_same, unspelled_same_if}
-use Rattle.kdl_layout.proofs.Respelling.Kept.{OnlySpaces, leading_again, place_again_if, place_bare_if, types_again_if, types_bare_if}
-use Rattle.kdl_layout.proofs.Respelling.Written.{leading_is, plain_format, name_is, ty_is, value_is, format_is}
+use Rattle.kdl_layout.proofs.Respelling.Kept.{OnlySpaces, leading_again_if, no_texts, place_again_if, place_bare_if, types_again_if, types_bare_if}
+use Rattle.kdl_layout.proofs.Respelling.Written.{leading_is, name_is, ty_is, value_is, format_is}
 use Rattle.kdl_layout.proofs.Respelling.Spelled.{SpelledHead, SpelledNode, spelled, SpelledChildren, blockless, spelled_block, SpelledNodes, nodeless, one_more, SpelledDocument, same_block}
 use Rattle.kdl_layout.proofs.Spacing.TextsAgain.{IsAgain, line_stays, node_passes, content_stays, braced_stays}
 use Rattle.kdl_layout.proofs.Formatting.PrintsCanonical.{unspelled_twice}
@@ -39,10 +39,11 @@ tail_again true q t k = k
 tail_again false q t (is, ItemsIn.items d, e) = (is, ItemsIn.items (rw e (tail_spaced d)), e)
 tail_again false q t (_, ItemsIn.no_items n, e) = rw e (blank_kept false)
 
--- layout looks at the text before an entry, which is kept of it, with its spelling or without
-before_unlooked : (s : Settings) (e : Entry) (t u : Text) (o p q : Option EntryFormat) → is_kept_format o ≡ false → KeptBefore s o t → p ≡ plain_format t e.value → KeptForm s e o p q → KeptBefore s q u → KeptBefore s p u
-before_unlooked s e t u _ p _ n h i (KeptForm.kept {f = f} {g = g} d k) b =
-    subst (λ (x : Option EntryFormat). KeptBefore s x u) (sym i) (before_plain s e.value t u (go k.leading (subst (λ (z : Bool). WrittenUnless (z || s.no_comments) (PlaceItems (before_entry false) g.leading) tail u) k.autoformat_keep b)))
+-- layout looks at the text before an entry, which is kept of it, with its form or without
+formed_unlooked : (keep : Bool) (s : Settings) (e : Entry) (t u value : Text) (f g : EntryFormat) (p : Option EntryFormat) → is_kept_format (Some f) ≡ false → KeptBefore s (Some f) t → p ≡ plain_format t e.value → KeepsForm keep s e f (text_before p) value g
+    → KeptBefore s (Some g) u → KeptBefore s p u
+formed_unlooked keep s e t u value f g p n h i k b =
+    subst (λ (x : Option EntryFormat). KeptBefore s x u) (sym i) (before_plain s e.value t u (leads keep g.leading k.leading (subst (λ (z : Bool). WrittenUnless (z || s.no_comments) (PlaceItems (before_entry false) g.leading) tail u) k.autoformat_keep b)))
   where
     old : WrittenUnless s.no_comments (PlaceItems (before_entry false) f.leading) tail t
     old = subst (λ (z : Bool). WrittenUnless (z || s.no_comments) (PlaceItems (before_entry false) f.leading) tail t) n h
@@ -50,13 +51,25 @@ before_unlooked s e t u _ p _ n h i (KeptForm.kept {f = f} {g = g} d k) b =
     after : text_before (plain_format t e.value) ≡ t ++ (32 ∷ [])
     after = leading_is t e.value
 
+    plain : WrittenUnless s.no_comments (PlaceItems (before_entry false) (text_before p)) tail u → WrittenUnless s.no_comments (PlaceItems (before_entry false) (text_before (plain_format t e.value))) tail u
+    plain w = subst (λ (x : Option EntryFormat). WrittenUnless s.no_comments (PlaceItems (before_entry false) (text_before x)) tail u) i w
+
     go : {r : Text} → KeptLeading s f.leading (text_before p) r → WrittenUnless s.no_comments (PlaceItems (before_entry false) r) tail u → WrittenUnless s.no_comments (PlaceItems (before_entry false) (text_before (plain_format t e.value))) tail u
     go (KeptLeading.continued c) w =
         subst (λ (z : Text). WrittenUnless s.no_comments (PlaceItems (before_entry false) z) tail u) (sym after)
         (subst (λ (z : Text). WrittenUnless s.no_comments (PlaceItems (before_entry false) (t ++ (32 ∷ []))) tail z) (tail_det s (before_entry false) f.leading t u old w) (tail_again s.no_comments f.leading t old))
-    go (KeptLeading.other m) w = subst (λ (x : Option EntryFormat). WrittenUnless s.no_comments (PlaceItems (before_entry false) (text_before x)) tail u) i w
-before_unlooked s e t u _ p _ n h i (KeptForm.other m) b = b
-before_unlooked s e t u _ p _ n h i KeptForm.formless b = b
+    go (KeptLeading.other m) w = plain w
+
+    leads : (keep : Bool) (r : Text) → KeptLeadingIf keep s f.leading (text_before p) r → WrittenUnless s.no_comments (PlaceItems (before_entry false) r) tail u
+        → WrittenUnless s.no_comments (PlaceItems (before_entry false) (text_before (plain_format t e.value))) tail u
+    leads true r l w = go l w
+    leads false r l w = plain (subst (λ (z : Text). WrittenUnless s.no_comments (PlaceItems (before_entry false) z) tail u) l w)
+
+before_unlooked : (keep : Bool) (s : Settings) (e : Entry) (t u : Text) (o p q : Option EntryFormat) → is_kept_format o ≡ false → KeptBefore s o t → p ≡ plain_format t e.value → KeptForm keep s e o p q → KeptBefore s q u → KeptBefore s p u
+before_unlooked keep s e t u _ p _ n h i (KeptForm.kept {f = f} {g = g} x d k) b = formed_unlooked keep s e t u f.value_repr f g p n h i k b
+before_unlooked keep s e t u _ p _ n h i (KeptForm.bare m k) b = b
+before_unlooked keep s e t u _ p _ n h i (KeptForm.other {f = f} {g = g} m k w) b = formed_unlooked keep s e t u (print_value e.value) f g p n h i k b
+before_unlooked keep s e t u _ p _ n h i KeptForm.formless b = b
 
 -- what is put back is put back again
 spelling_again : (s : Text) (o r q : Option Text) → KeptSpelling s o r → KeptSpelling s r q → q ≡ r
@@ -103,23 +116,23 @@ form_same f g value leading trailing types after_key after_eq flag = λ i. recor
   autoformat_keep = flag i;
 }
 
-keeps_again : (s : Settings) (e x : Entry) (f g h : EntryFormat) (laid : Text) → IsLike e x → KeepsForm s e f laid g → KeepsForm s x g laid h → h ≡ g
-keeps_again s e x f g h laid like a b =
+keeps_again : (keep : Bool) (s : Settings) (e x : Entry) (f g h : EntryFormat) (laid v w : Text) → IsLike e x → KeepsForm keep s e f laid v g → KeepsForm keep s x g laid w h → w ≡ g.value_repr → h ≡ g
+keeps_again keep s e x f g h laid v w like a b same =
     let out = not s.no_comments in
-    let leading = leading_again a.leading b.leading in
+    let leading = leading_again_if keep s f.leading laid g.leading h.leading a.leading b.leading in
     let types = types_again_if (out && is_some e.ty) (entry_type_texts f) (entry_type_texts g) (entry_type_texts h) a.ty (subst (λ (z : Bool). KeptTypeTextsIf (out && z) (entry_type_texts g) (entry_type_texts h)) like.ty b.ty) in
     let after_key = place_again_if (out && is_some e.name) f.after_key g.after_key h.after_key a.after_key (subst (λ (z : Bool). KeptPlaceIf (out && z) g.after_key h.after_key) like.name b.after_key) in
     let after_eq = place_again_if (out && is_some e.name) f.after_eq g.after_eq h.after_eq a.after_eq (subst (λ (z : Bool). KeptPlaceIf (out && z) g.after_eq h.after_eq) like.name b.after_eq) in
-    form_same h g b.value_repr leading (b.trailing ∙ sym a.trailing) types after_key after_eq (b.autoformat_keep ∙ sym a.autoformat_keep)
+    form_same h g (b.value_repr ∙ same) leading (b.trailing ∙ sym a.trailing) types after_key after_eq (b.autoformat_keep ∙ sym a.autoformat_keep)
 
 -- the format that layout leaves has no text inside, and so is kept
-plain_keeps : (s : Settings) (x : Entry) (f g : EntryFormat) → f ≡ record empty_format { leading = f.leading; value_repr = f.value_repr } → KeepsForm s x f f.leading g → g ≡ f
-plain_keeps s x f g e k =
+plain_keeps : (keep : Bool) (s : Settings) (x : Entry) (f g : EntryFormat) (v : Text) → f ≡ record empty_format { leading = f.leading; value_repr = f.value_repr } → v ≡ f.value_repr → KeepsForm keep s x f f.leading v g → g ≡ f
+plain_keeps keep s x f g v e same k =
     let out = not s.no_comments in
     let types = types_bare_if (out && is_some x.ty) (entry_type_texts f) (entry_type_texts g) bare k.ty in
     let after_key = place_bare_if (out && is_some x.name) f.after_key g.after_key (ap (λ (z : EntryFormat). only_spaces z.after_key) e) k.after_key in
     let after_eq = place_bare_if (out && is_some x.name) f.after_eq g.after_eq (ap (λ (z : EntryFormat). only_spaces z.after_eq) e) k.after_eq in
-    form_same g (record empty_format { leading = f.leading; value_repr = f.value_repr }) k.value_repr (same_leading k.leading) k.trailing types after_key after_eq k.autoformat_keep ∙ sym e
+    form_same g (record empty_format { leading = f.leading; value_repr = f.value_repr }) (k.value_repr ∙ same) (leading_if keep k.leading) k.trailing types after_key after_eq k.autoformat_keep ∙ sym e
   where
     bare : OnlySpaces (entry_type_texts f)
     bare = record { before_name = ap (λ (z : EntryFormat). only_spaces z.before_ty_name) e; after_name = ap (λ (z : EntryFormat). only_spaces z.after_ty_name) e; after = ap (λ (z : EntryFormat). only_spaces z.after_ty) e }
@@ -128,20 +141,49 @@ plain_keeps s x f g e k =
     same_leading (KeptLeading.continued c) = refl
     same_leading (KeptLeading.other n) = refl
 
-plain_again : (s : Settings) (x : Entry) (t : Text) (v : Value) (p q : Option EntryFormat) → p ≡ plain_format t v → KeptForm s x p p q → q ≡ p
-plain_again s x [] v _ _ e (KeptForm.kept d k) = absurd cc
-plain_again s x (c ∷ t) v _ _ e (KeptForm.kept {f = f} {g = g} d k) =
+    leading_if : (keep : Bool) {r : Text} → KeptLeadingIf keep s f.leading f.leading r → r ≡ f.leading
+    leading_if true l = same_leading l
+    leading_if false l = l
+
+plain_again : (keep : Bool) (s : Settings) (x : Entry) (t : Text) (v : Value) (p q : Option EntryFormat) → x.value ≡ v → p ≡ plain_format t v → KeptForm keep s x p p q → q ≡ p
+plain_again keep s x [] v _ _ u e (KeptForm.kept y d k) = absurd cc
+plain_again keep s x t v _ _ u e (KeptForm.bare n k) = refl
+plain_again keep s x [] v _ _ u e (KeptForm.other n k w) = absurd cc
+plain_again keep s x (c ∷ t) v _ _ u e (KeptForm.kept {f = f} {g = g} y d k) =
     let h : f ≡ record empty_format { leading = (c ∷ t) ++ (32 ∷ []); value_repr = print_value v } = cc in
     let h' : f ≡ record empty_format { leading = f.leading; value_repr = f.value_repr } = h ∙ sym (ap (λ (z : EntryFormat). record empty_format { leading = z.leading; value_repr = z.value_repr }) h) in
-    ap Some (plain_keeps s x f g h' k)
-plain_again s x t v _ _ e (KeptForm.other n) = refl
-plain_again s x t v _ _ e KeptForm.formless = refl
+    ap Some (plain_keeps keep s x f g f.value_repr h' refl k)
+plain_again keep s x (c ∷ t) v _ _ u e (KeptForm.other {f = f} {g = g} n k w) =
+    let h : f ≡ record empty_format { leading = (c ∷ t) ++ (32 ∷ []); value_repr = print_value v } = cc in
+    let h' : f ≡ record empty_format { leading = f.leading; value_repr = f.value_repr } = h ∙ sym (ap (λ (z : EntryFormat). record empty_format { leading = z.leading; value_repr = z.value_repr }) h) in
+    let same : g ≡ f = plain_keeps keep s x f g (print_value x.value) h' (ap print_value u ∙ sym (ap (λ (z : EntryFormat). z.value_repr) h)) k in
+    let bare : bare_inside g ≡ true = ap bare_inside (same ∙ h) in
+    let z : true ≡ false = sym bare ∙ w in
+    absurd cc
+plain_again keep s x t v _ _ u e KeptForm.formless = refl
 
-format_again : (s : Settings) (e x : Entry) (t : Text) (o p q r : Option EntryFormat) → IsLike e x → p ≡ plain_format t e.value → KeptForm s e o p q → KeptForm s x q p r → r ≡ q
-format_again s e x t _ p _ _ like h (KeptForm.kept {f = f} {g = g} d k) (KeptForm.kept {g = g'} b j) = ap Some (keeps_again s e x f g g' (text_before p) like k j)
-format_again s e x t _ p _ _ like h (KeptForm.kept {f = f} {g = g} d k) (KeptForm.other n) = absurd (n (subst (λ (v : Value). IsSpelling v g.value_repr) (sym like.value) (subst (IsSpelling e.value) (sym k.value_repr) d)))
-format_again s e x t _ p _ r like h (KeptForm.other n) b = plain_again s x t e.value p r h b
-format_again s e x t _ p _ r like h KeptForm.formless b = plain_again s x t e.value p r h b
+-- a form of which nothing is kept again has nothing inside
+bare_again : (keep : Bool) (s : Settings) (e x : Entry) (f g : EntryFormat) (laid v : Text) → IsLike e x → KeepsForm keep s e f laid v g → NothingInside s x g → bare_inside g ≡ true
+bare_again keep s e x f g laid v like a b =
+    let out = not s.no_comments in
+    let types = types_again_if (out && is_some e.ty) (entry_type_texts f) (entry_type_texts g) no_texts a.ty (subst (λ (z : Bool). KeptTypeTextsIf (out && z) (entry_type_texts g) no_texts) like.ty b.ty) in
+    let before_name : g.before_ty_name ≡ [] = sym (ap (λ (z : TypeTexts). z.before_name) types) in
+    let after_name : g.after_ty_name ≡ [] = sym (ap (λ (z : TypeTexts). z.after_name) types) in
+    let after : g.after_ty ≡ [] = sym (ap (λ (z : TypeTexts). z.after) types) in
+    let after_key : g.after_key ≡ [] = sym (place_again_if (out && is_some e.name) f.after_key g.after_key [] a.after_key (subst (λ (z : Bool). KeptPlaceIf (out && z) g.after_key []) like.name b.after_key)) in
+    let after_eq : g.after_eq ≡ [] = sym (place_again_if (out && is_some e.name) f.after_eq g.after_eq [] a.after_eq (subst (λ (z : Bool). KeptPlaceIf (out && z) g.after_eq []) like.name b.after_eq)) in
+    rw (before_name, after_name, after, after_key, after_eq) refl
+
+format_again : (keep : Bool) (s : Settings) (e x : Entry) (t : Text) (o p q r : Option EntryFormat) → IsLike e x → p ≡ plain_format t e.value → KeptForm keep s e o p q → KeptForm keep s x q p r → r ≡ q
+format_again keep s e x t _ p _ _ like h (KeptForm.kept {f = f} {g = g} y d k) (KeptForm.kept {g = g'} z b j) = ap Some (keeps_again keep s e x f g g' (text_before p) f.value_repr g.value_repr like k j refl)
+format_again keep s e x t _ p _ _ like h (KeptForm.kept {f = f} {g = g} y d k) (KeptForm.bare n j) = absurd (n y (subst (λ (v : Value). IsSpelling v g.value_repr) (sym like.value) (subst (IsSpelling e.value) (sym k.value_repr) d)))
+format_again keep s e x t _ p _ _ like h (KeptForm.kept {f = f} {g = g} y d k) (KeptForm.other n j w) = absurd (n y (subst (λ (v : Value). IsSpelling v g.value_repr) (sym like.value) (subst (IsSpelling e.value) (sym k.value_repr) d)))
+format_again keep s e x t _ p _ r like h (KeptForm.bare n k) b = plain_again keep s x t e.value p r like.value h b
+format_again keep s e x t _ p _ _ like h (KeptForm.other {f = f} {g = g} n k w) (KeptForm.kept {g = g'} y d j) = ap Some (keeps_again keep s e x f g g' (text_before p) (print_value e.value) g.value_repr like k j refl)
+format_again keep s e x t _ p _ _ like h (KeptForm.other {f = f} {g = g} n k w) (KeptForm.bare m j) = let z : true ≡ false = sym (bare_again keep s e x f g (text_before p) (print_value e.value) like k j) ∙ w in absurd cc
+format_again keep s e x t _ p _ _ like h (KeptForm.other {f = f} {g = g} n k w) (KeptForm.other {g = g'} m j v) =
+    ap Some (keeps_again keep s e x f g g' (text_before p) (print_value e.value) (print_value x.value) like k j (ap print_value like.value ∙ sym k.value_repr))
+format_again keep s e x t _ p _ r like h KeptForm.formless b = plain_again keep s x t e.value p r like.value h b
 
 -- layout does not look at the texts around the type of a node
 typed_spaced : (number : ℕ) (s : Settings) (level : ℕ) (has : Bool) (b : Before) (c : Bool) (f : NodeFormat) (m x z : Option NodeFormat) → IsTypedFormat c f m x → IsSpacedLine number s level has b (or_empty x) z → IsSpacedLine number s level has b (or_empty m) z
@@ -185,37 +227,43 @@ module _ (s : Settings) (no_keep : s.entry_autoformate_keep ≡ false) where
       let same = text_stays s.no_comments e (entry_leading e.format) t u old (subst (λ (x : Entry). WrittenUnless s.no_comments (PlaceItems (before_entry false) (entry_leading x.format)) tail u) p new) in
       r ∙ ap (following u) (auto_cleared m (entry_keeps_none s e m f) ∙ ap cleared p ∙ cleared_after t (cleared e) ∙ cleared_again e) ∙ ap (λ (x : Text). following x (cleared e)) same ∙ sym p
 
-  spellings : (e m x : Entry) → is_kept_format e.format ≡ false → HasSpellingsUnless (is_kept_format (with_keep_if s.entry_autoformate_keep e).format) s e m x → HasSpellings s e m x
-  spellings e m x n h = subst (λ (z : Bool). HasSpellingsUnless z s e m x) (ap (λ (y : Entry). is_kept_format y.format) (unflagged e) ∙ n) h
+  spellings : (keep : Bool) (e m x : Entry) → is_kept_format e.format ≡ false → HasSpellingsUnless (is_kept_format (with_keep_if s.entry_autoformate_keep e).format) keep s e m x → HasSpellings keep s e m x
+  spellings keep e m x n h = subst (λ (z : Bool). HasSpellingsUnless z keep s e m x) (ap (λ (y : Entry). is_kept_format y.format) (unflagged e) ∙ n) h
 
-  -- layout does not look at spellings
-  entry_unlooked : (keep : Bool) (e m x z : Entry) → IsFormattedEntry s e m → IsRespelledEntry keep s e m x → is_kept_format e.format ≡ false → IsFormattedEntry s x z → IsFormattedEntry s m z
-  entry_unlooked false e m x z f r n g = subst (λ (y : Entry). IsFormattedEntry s y z) r g
-  entry_unlooked true e m x z f r n g =
-      let left = entry_keeps_none s e m f in
-      let auto = auto_cleared x (entry_flag true s e m x left r) ∙ cleared_same true s e m x r ∙ sym (auto_cleared m left) in
-      let (u, k, q) = look x z g in
-      let (t, j, is) = look e m f in
-      looked m z u (before_unlooked s e t u e.format m.format x.format n j (format_is e m t is n) (spellings e m x n r).format k) (q ∙ ap (following u) auto)
+  -- layout does not look at spellings, and at comments inside entries
+  entry_unlooked : (keep : Keeping) (e m x z : Entry) → IsFormattedEntry s e m → IsRespelledEntry keep s e m x → is_kept_format e.format ≡ false → IsFormattedEntry s x z → IsFormattedEntry s m z
+  entry_unlooked keep e m x z f r n g = go (keeps_texts keep) r
+    where
+      go : (b : Bool) → HasSpellingsIf b keep.spelling s e m x → IsFormattedEntry s m z
+      go false h = subst (λ (y : Entry). IsFormattedEntry s y z) h g
+      go true h =
+          let left = entry_keeps_none s e m f in
+          let auto = auto_cleared x (entry_flag keep s e m x left r) ∙ cleared_same keep s e m x r ∙ sym (auto_cleared m left) in
+          let (u, k, q) = look x z g in
+          let (t, j, is) = look e m f in
+          looked m z u (before_unlooked keep.spelling s e t u e.format m.format x.format n j (format_is e m t is n) (spellings keep.spelling e m x n h).format k) (q ∙ ap (following u) auto)
 
   -- what an entry got back it gets back again
-  spelled_again : (e m x y : Entry) (t : Text) → m ≡ following t (autoformatted e) → is_kept_format e.format ≡ false → HasSpellings s e m x → HasSpellings s x m y → y ≡ x
-  spelled_again e m x y t is n a b =
-      let ty = name_again_if true e.ty m.ty x.ty y.ty (ty_is e m t is) a.ty b.ty in
-      let name = name_again_if true e.name m.name x.name y.name (name_is e m t is) a.name b.name in
-      let like : IsLike e x = record { value = a.value ∙ value_is e m t is; ty = some_again true e.ty m.ty x.ty a.ty; name = some_again true e.name m.name x.name a.name } in
-      let format = format_again s e x t e.format m.format x.format y.format like (format_is e m t is n) a.format b.format in
+  spelled_again : (keep : Bool) (e m x y : Entry) (t : Text) → m ≡ following t (autoformatted e) → is_kept_format e.format ≡ false → HasSpellings keep s e m x → HasSpellings keep s x m y → y ≡ x
+  spelled_again keep e m x y t is n a b =
+      let ty = name_again_if keep e.ty m.ty x.ty y.ty (ty_is e m t is) a.ty b.ty in
+      let name = name_again_if keep e.name m.name x.name y.name (name_is e m t is) a.name b.name in
+      let like : IsLike e x = record { value = a.value ∙ value_is e m t is; ty = some_again keep e.ty m.ty x.ty a.ty; name = some_again keep e.name m.name x.name a.name } in
+      let format = format_again keep s e x t e.format m.format x.format y.format like (format_is e m t is n) a.format b.format in
       let value = b.value ∙ sym a.value in
       let span = b.span ∙ sym a.span in
       λ i. record { ty = ty i; value = value i; name = name i; format = format i; span = span i }
 
-  respelled_again : (keep : Bool) (e m x y : Entry) → IsFormattedEntry s e m → is_kept_format e.format ≡ false → IsRespelledEntry keep s e m x → IsRespelledEntry keep s x m y → y ≡ x
-  respelled_again false e m x y f n a b = b ∙ sym a
-  respelled_again true e m x y f n a b =
-      let (t, k, is) = look e m f in
-      spelled_again e m x y t is n (spellings e m x n a) (spellings x m y (entry_flag true s e m x (entry_keeps_none s e m f) a) b)
+  respelled_again : (keep : Keeping) (e m x y : Entry) → IsFormattedEntry s e m → is_kept_format e.format ≡ false → IsRespelledEntry keep s e m x → IsRespelledEntry keep s x m y → y ≡ x
+  respelled_again keep e m x y f n a b = go (keeps_texts keep) a b
+    where
+      go : (c : Bool) → HasSpellingsIf c keep.spelling s e m x → HasSpellingsIf c keep.spelling s x m y → y ≡ x
+      go false h k = k ∙ sym h
+      go true h k =
+          let (t, j, is) = look e m f in
+          spelled_again keep.spelling e m x y t is n (spellings keep.spelling e m x n h) (spellings keep.spelling x m y (entry_flag keep s e m x (entry_keeps_none s e m f) a) k)
 
-  entries_again : (keep : Bool) (es ms xs zs ys : List Entry) → AreFormattedEntries s es ms → EntriesKeepNone es → AreRespelledEntries keep s es ms xs → AreFormattedEntries s xs zs → AreRespelledEntries keep s xs zs ys → ys ≡ xs
+  entries_again : (keep : Keeping) (es ms xs zs ys : List Entry) → AreFormattedEntries s es ms → EntriesKeepNone es → AreRespelledEntries keep s es ms xs → AreFormattedEntries s xs zs → AreRespelledEntries keep s xs zs ys → ys ≡ xs
   entries_again keep [] [] [] [] [] f o a g b = refl
   entries_again keep (e ∷ es) (m ∷ ms) (x ∷ xs) (z ∷ zs) (y ∷ ys) f o a g b =
       let same : z ≡ m = before_stays e m z f.0 o.0 (entry_unlooked keep e m x z f.0 a.0 o.0 g.0) in
@@ -224,24 +272,24 @@ module _ (s : Settings) (no_keep : s.entry_autoformate_keep ≡ false) where
       λ i. h i ∷ t i
   entries_again keep _ _ _ _ _ f o a g b = absurd assumption
 
-module _ (s : Settings) (ok : list_all is_space s.indent ≡ true) (no_keep : s.entry_autoformate_keep ≡ false) (keep : Bool) (number : ℕ) where
+module _ (s : Settings) (ok : list_all is_space s.indent ≡ true) (no_keep : s.entry_autoformate_keep ≡ false) (keep : Keeping) (number : ℕ) where
   head_again : (level : ℕ) (has : Bool) (b c : Before) (h x y : Head) → SpelledHead number s keep level has b h x → EntriesKeepNone h.entries → SpelledHead number s keep level has c x y → IsAgain number b c → y ≡ x
   head_again level has b c h x y f o g i =
       let m = f.laid in
       let z = g.laid in
       let p = f.respelled in
       let q = g.respelled in
-      let typed = keep && not s.no_comments in
-      let same_ty : z.ty ≡ m.ty = g.spaced.ty ∙ unspelled_same_if keep h.ty m.ty x.ty p.ty ∙ ap (option_map unspelled) f.spaced.ty ∙ unspelled_twice h.ty ∙ sym f.spaced.ty in
-      let same_name : z.name ≡ m.name = g.spaced.name ∙ unspelled_same keep h.name m.name x.name p.name ∙ ap unspelled f.spaced.name ∙ sym f.spaced.name in
+      let typed = keeps_texts keep && not s.no_comments in
+      let same_ty : z.ty ≡ m.ty = g.spaced.ty ∙ unspelled_same_if keep.spelling h.ty m.ty x.ty p.ty ∙ ap (option_map unspelled) f.spaced.ty ∙ unspelled_twice h.ty ∙ sym f.spaced.ty in
+      let same_name : z.name ≡ m.name = g.spaced.name ∙ unspelled_same keep.spelling h.name m.name x.name p.name ∙ ap unspelled f.spaced.name ∙ sym f.spaced.name in
       let same_line : z.format ≡ m.format = line_stays s ok number level has b c (or_empty h.format) m.format z.format i f.spaced.format
       (typed_spaced number s level has c (typed && is_some h.ty) (or_empty h.format) m.format x.format z.format p.format g.spaced.format) in
-      let ty = name_again_if keep h.ty m.ty x.ty y.ty f.spaced.ty p.ty (subst (λ (w : Option Identifier). IsRespelledIf keep x.ty w y.ty) same_ty q.ty) in
-      let name = name_again keep h.name m.name x.name y.name f.spaced.name p.name (subst (λ (w : Identifier). IsRespelled keep x.name w y.name) same_name q.name) in
+      let ty = name_again_if keep.spelling h.ty m.ty x.ty y.ty f.spaced.ty p.ty (subst (λ (w : Option Identifier). IsRespelledIf keep.spelling x.ty w y.ty) same_ty q.ty) in
+      let name = name_again keep.spelling h.name m.name x.name y.name f.spaced.name p.name (subst (λ (w : Identifier). IsRespelled keep.spelling x.name w y.name) same_name q.name) in
       let entries = entries_again s no_keep keep h.entries m.entries x.entries z.entries y.entries f.spaced.entries o p.entries g.spaced.entries q.entries in
       let format = typed_again (typed && is_some h.ty) (or_empty h.format) m.format x.format y.format p.format
       (subst (λ (w : Option NodeFormat). IsTypedFormat (typed && is_some h.ty) (or_empty x.format) w y.format) same_line
-      (subst (λ (w : Bool). IsTypedFormat (typed && w) (or_empty x.format) z.format y.format) (some_again keep h.ty m.ty x.ty p.ty) q.format)) in
+      (subst (λ (w : Bool). IsTypedFormat (typed && w) (or_empty x.format) z.format y.format) (some_again keep.spelling h.ty m.ty x.ty p.ty) q.format)) in
       let span = q.span ∙ g.spaced.span in
       λ i. record { ty = ty i; name = name i; entries = entries i; format = format i; span = span i }
 

@@ -1,12 +1,14 @@
 -- What is kept inside an entry or a type, and before an entry that continues the line: it reads back, and is kept again.
-use Rattle.kdl_layout.proofs.Common.{◌≡◌, Bool, true, false, List, [], ◌∷◌, ◌++◌, refl, sym, ap, subst, ◌∙◌, Option, Some, None, option_map, append-nil, ℕ, Result, Ok, Err, String, string_bytes, Global, IfOk, and_parts, both_true, not, is_some, ◌&&◌, ◌==◌, IsTrue, length, chars, identifier_tree, KdlIdentifier, Text, Star, Plus, plus, is_space, NodeSpace, ValueEnd, EntryLeading, leading, NodeFormat, Item, before_entry, PlaceItems, AreNodeSpaces, Settings, no_newline, only_spaces, or_empty, IsTypedFormat, IsContinued, KeptPlace, KeptPlaceIf, KeptLeading, TypeTexts, KeptTypeTexts, KeptTypeTextsIf, node_type_texts, text_of, items_view}
+use Rattle.kdl_layout.proofs.Common.{◌≡◌, Bool, true, false, List, [], ◌∷◌, ◌++◌, refl, sym, ap, subst, ◌∙◌, Option, Some, None, option_map, append-nil, ℕ, Result, Ok, Err, String, string_bytes, Global, IfOk, and_parts, both_true, eqb-true, if◌then◌else◌, not, is_some, ◌&&◌, ◌==◌, IsTrue, length, chars, identifier_tree, KdlIdentifier, Text, Star, Plus, plus, is_space, NodeSpace, ValueEnd, EntryLeading, leading, NodeFormat, Item, before_entry, PlaceItems, AreNodeSpaces, Settings, no_newline, only_spaces, or_empty, IsTypedFormat, IsContinued, KeptPlace, KeptPlaceIf, KeptLeading, KeptLeadingIf, line_text, TypeTexts, KeptTypeTexts, KeptTypeTextsIf, node_type_texts, text_of, items_view}
 use Rattle.kdl_layout.proofs.Listing.SpaceItems.{space_items}
 use Rattle.kdl_layout.proofs.NodeSpaces.{empty_spaces, spaces_then}
 use Rattle.kdl_layout.proofs.Rewriting.BeforeNewlines.{some_end}
 use Rattle.kdl_layout.proofs.Listing.ItemsUnique.{place_items_det}
-use Rattle.kdl_layout.specs.Internal.KeptTexts.{KeptTypeTextsIn, put_type_texts}
+use Rattle.kdl_layout.specs.Internal.KeptTexts.{KeepsLeading, KeptTypeTextsIn, put_type_texts}
 use Rattle.kdl_layout.specs.declared.spaces.Item as held
 use Rattle.kdl_layout.proofs.Spacing.Lines.{space_no_newline}
+use Rattle.kdl_layout.specs.Respelled.{IsCommented}
+use Rattle.kdl_layout.proofs.Rewriting.LinesAgain.{line_text_again}
 
 -- what is kept of a text is node-spaces
 pub place_spaces : {t r : Text} → KeptPlace t r → AreNodeSpaces r
@@ -30,7 +32,7 @@ pub no_type_spaces : TypeSpaces no_texts
 no_type_spaces = record { before_name = empty_spaces; after_name = empty_spaces; after = empty_spaces }
 
 -- of each of them, what is kept is kept of its place
-each_place : (b : Bool) (t x : TypeTexts) → KeptTypeTextsIf b t x → KeptPlaceIf b t.before_name x.before_name × KeptPlaceIf b t.after_name x.after_name × KeptPlaceIf b t.after x.after
+pub each_place : (b : Bool) (t x : TypeTexts) → KeptTypeTextsIf b t x → KeptPlaceIf b t.before_name x.before_name × KeptPlaceIf b t.after_name x.after_name × KeptPlaceIf b t.after x.after
 each_place false t x h = (ap (λ (z : TypeTexts). z.before_name) h, ap (λ (z : TypeTexts). z.after_name) h, ap (λ (z : TypeTexts). z.after) h)
 each_place true t x h = (h.before_name, h.after_name, h.after)
 
@@ -39,9 +41,26 @@ type_spaces_if b t x h =
     let k = each_place b t x h in
     record { before_name = place_if_spaces b t.before_name x.before_name k.0; after_name = place_if_spaces b t.after_name x.after_name k.1; after = place_if_spaces b t.after x.after k.2 }
 
+-- LF for a CR at its end makes a text no spaces, and spaces none
+feed_no_space : is_space 10 ≡ is_space 13
+unfolding is_space
+feed_no_space = refl
+
+line_space_char : (c : ℕ) → is_space (if c == 13 then 10 else c) ≡ is_space c
+line_space_char c = go (c == 13) refl
+  where
+    go : (b : Bool) → (c == 13) ≡ b → is_space (if b then 10 else c) ≡ is_space c
+    go true e = feed_no_space ∙ ap is_space (sym (eqb-true c 13 e))
+    go false e = refl
+
+pub line_spaces : (t : Text) → only_spaces (line_text t) ≡ only_spaces t
+line_spaces [] = refl
+line_spaces (c ∷ []) = ap (λ (b : Bool). b && true) (line_space_char c)
+line_spaces (c ∷ d ∷ t) = ap (λ (b : Bool). is_space c && b) (line_spaces (d ∷ t))
+
 -- nothing is kept of spaces
 pub nothing_of_spaces : {t r : Text} → only_spaces t ≡ true → KeptPlace t r → r ≡ []
-nothing_of_spaces e (KeptPlace.kept h) = let z : true ≡ false = sym e ∙ h.1 in absurd cc
+nothing_of_spaces {t} e (KeptPlace.kept h) = let z : true ≡ false = sym e ∙ sym (line_spaces t) ∙ h.1 in absurd cc
 nothing_of_spaces e (KeptPlace.other n) = refl
 
 -- no more than spaces around a type
@@ -64,8 +83,8 @@ types_bare_if b t x e h =
 
 -- what is kept is kept again
 pub place_again : {t r q : Text} → KeptPlace t r → KeptPlace r q → q ≡ r
-place_again (KeptPlace.kept h) (KeptPlace.kept k) = refl
-place_again (KeptPlace.kept h) (KeptPlace.other n) = absurd (n h)
+place_again {t = t} (KeptPlace.kept h) (KeptPlace.kept k) = line_text_again t
+place_again {t = t} (KeptPlace.kept h) (KeptPlace.other n) = absurd (n (subst IsCommented (sym (line_text_again t)) h))
 place_again (KeptPlace.other n) k = nothing_of_spaces refl k
 
 pub place_again_if : (b : Bool) (t r q : Text) → KeptPlaceIf b t r → KeptPlaceIf b r q → q ≡ r
@@ -87,6 +106,10 @@ leading_again (KeptLeading.continued c) (KeptLeading.other n) = absurd (n c)
 leading_again (KeptLeading.other n) (KeptLeading.continued d) = refl
 leading_again (KeptLeading.other n) (KeptLeading.other m) = refl
 
+pub leading_again_if : (keep : Bool) (s : Settings) (old laid r q : Text) → KeptLeadingIf keep s old laid r → KeptLeadingIf keep s r laid q → q ≡ r
+leading_again_if false s old laid r q h k = k ∙ sym h
+leading_again_if true s old laid r q h k = leading_again h k
+
 -- a text that continues the line
 pub not_empty : {s : Settings} {t : Text} → IsContinued s t → t ≡ [] → ⊥
 not_empty c e = let z : true ≡ false = sym (ap no_newline e) ∙ c.newline in cc
@@ -98,7 +121,7 @@ pub continued_leads : {s : Settings} {t : Text} → IsContinued s t → (r : Tex
 continued_leads {t = t} c r = leading Star.none (spaces_then t c.spaces (not_empty c) r)
 
 -- such a text may be before an entry
-spaces_place : {s r : Text} → Star NodeSpace s r → r ≡ [] → (is : List Item) × PlaceItems (before_entry true) s is
+pub spaces_place : {s r : Text} → Star NodeSpace s r → r ≡ [] → (is : List Item) × PlaceItems (before_entry true) s is
 spaces_place Star.none e = ([], subst (λ (t : Text). PlaceItems (before_entry true) t []) (sym e) (PlaceItems.ends refl))
 spaces_place (Star.more n ns) e = let (is, d) = space_items n in let (js, k) = spaces_place ns e in (is ++ js, PlaceItems.space d k)
 
@@ -137,14 +160,13 @@ typed_put keep b ty old o f g h k e = subst (λ (z : Bool). IsTypedFormat (keep 
 -- The steps that find what is kept there.
 -- a text of spaces, one that may not be between two parts, and one that is copied
 pub place_of_spaces : (t u : Text) → only_spaces t ≡ true → u ≡ [] → KeptPlace t u
-place_of_spaces t u h e = subst (KeptPlace t) (sym e) (KeptPlace.other (λ k. let z : true ≡ false = sym h ∙ k.1 in absurd cc))
+place_of_spaces t u h e = subst (KeptPlace t) (sym e) (KeptPlace.other (λ k. let z : true ≡ false = sym h ∙ sym (line_spaces t) ∙ k.1 in absurd cc))
 
-pub place_refused : (t u : Text) (b : Bool) → b ≡ false → (AreNodeSpaces t → IsTrue b) → u ≡ [] → KeptPlace t u
-place_refused t u b h f e = subst (KeptPlace t) (sym e) (KeptPlace.other (λ k. let z : false ≡ true = sym h ∙ f k.0 in absurd cc))
+pub place_refused : (t v u : Text) (b : Bool) → v ≡ line_text t → b ≡ false → (AreNodeSpaces v → IsTrue b) → u ≡ [] → KeptPlace t u
+place_refused t v u b l h f e = subst (KeptPlace t) (sym e) (KeptPlace.other (λ k. let z : false ≡ true = sym h ∙ f (subst AreNodeSpaces (sym l) k.0) in absurd cc))
 
-pub place_copied : {E : Type 0} (r : Result (String Global) E) (t : List ℕ) → only_spaces (chars t) ≡ false → AreNodeSpaces (chars t) → IfOk r (λ s. string_bytes s ≡ t) → IfOk r (λ s. KeptPlace (chars t) (text_of s))
-place_copied (Err e) t h a x = x
-place_copied (Ok s) t h a x = subst (KeptPlace (chars t)) (sym (ap chars x)) (KeptPlace.kept (a, h))
+pub place_copied : (t v : Text) → v ≡ line_text t → only_spaces t ≡ false → AreNodeSpaces v → KeptPlace t v
+place_copied t v l h a = subst (KeptPlace t) (sym l) (KeptPlace.kept (subst AreNodeSpaces l a, line_spaces t ∙ h))
 
 -- a place without items
 pub no_items : (t : Text) (is : List Item) (b : Bool) → PlaceItems (before_entry false) t is → (b ≡ true → is ≡ []) → (is ≡ [] → b ≡ true) → (IsTrue b → PlaceItems (before_entry false) t []) × (PlaceItems (before_entry false) t [] → IsTrue b)
@@ -155,12 +177,17 @@ empty_view [] n b l e h = e ∙ ap (λ (k : ℕ). k == 0) l
 empty_view (x ∷ xs) n b l e h = absurd cc
 
 -- the text before an entry
-pub leading_copied : {E : Type 0} (r : Result (String Global) E) (s : Settings) (t : List ℕ) (laid : Text) → IsContinued s (chars t) → IfOk r (λ x. string_bytes x ≡ t) → IfOk r (λ x. KeptLeading s (chars t) laid (text_of x))
-leading_copied (Err e) s t laid c x = x
-leading_copied (Ok y) s t laid c x = subst (KeptLeading s (chars t) laid) (sym (ap chars x)) (KeptLeading.continued c)
+leading_there : (keep : Bool) (s : Settings) (t laid r : Text) → keep ≡ true → IsContinued s t → r ≡ t → KeptLeadingIf keep s t laid r
+leading_there true s t laid r h c e = subst (KeptLeading s t laid) (sym e) (KeptLeading.continued c)
+leading_there false s t laid r h c e = absurd cc
 
-pub leading_laid : (s : Settings) (old laid r : Text) (b : Bool) → b ≡ false → (IsContinued s old → IsTrue b) → r ≡ laid → KeptLeading s old laid r
-leading_laid s old laid r b h f e = subst (KeptLeading s old laid) (sym e) (KeptLeading.other (λ c. let z : false ≡ true = sym h ∙ f c in absurd cc))
+pub leading_copied : {E : Type 0} (r : Result (String Global) E) (keep : Bool) (s : Settings) (t : List ℕ) (laid : Text) → KeepsLeading keep s (chars t) true → IfOk r (λ x. string_bytes x ≡ t) → IfOk r (λ x. KeptLeadingIf keep s (chars t) laid (text_of x))
+leading_copied (Err e) keep s t laid c x = x
+leading_copied (Ok y) keep s t laid c x = leading_there keep s (chars t) laid (text_of y) c.0 c.1 (ap chars x)
+
+pub leading_laid : (keep : Bool) (s : Settings) (old laid r : Text) → KeepsLeading keep s old false → r ≡ laid → KeptLeadingIf keep s old laid r
+leading_laid true s old laid r n e = subst (KeptLeading s old laid) (sym e) (KeptLeading.other (n refl))
+leading_laid false s old laid r n e = e
 
 -- the texts around the type of a node
 pub nothing_around : KeptTypeTexts no_texts no_texts

@@ -1,31 +1,31 @@
--- A tree that is laid out with its spellings, as one tree of steps: how each node is laid out and spelled.
-use Rattle.kdl_layout.proofs.Common.{◌≡◌, ℕ, ◌+◌, Bool, refl, sym, subst, ◌∙◌, Option, SourceSpan, DocumentFormat, Head, Node, node, Children, no_children, children, Document, document, Nodes, none, first, Settings, or_empty_document, newline_if_none, has_block, IsRespelledHead, IsRespelledNode, AreRespelledChildren, IsRespelledDocument, AreRespelledNodes, IsSpacedHead, PassesNode, IsSpacedContent, IsSpacedBraced, IsSpacedNode, IsSpacedChildren, AreSpacedNodes, IsSpacedDocument, Before}
+-- A tree that is laid out with what is kept inside its nodes, as one tree of steps: how each node is laid out and spelled.
+use Rattle.kdl_layout.proofs.Common.{◌≡◌, ℕ, ◌+◌, Bool, refl, sym, subst, ◌∙◌, Option, SourceSpan, DocumentFormat, Head, Node, node, Children, no_children, children, Document, document, Nodes, none, first, Keeping, Settings, or_empty_document, newline_if_none, has_block, IsRespelledHead, IsRespelledNode, AreRespelledChildren, IsRespelledDocument, AreRespelledNodes, IsSpacedHead, PassesNode, IsSpacedContent, IsSpacedBraced, IsSpacedNode, IsSpacedChildren, AreSpacedNodes, IsSpacedDocument, Before}
 
--- a node without its children: as it is laid out, and with its spellings
-pub record SpelledHead (number : ℕ) (s : Settings) (keep : Bool) (level : ℕ) (has : Bool) (b : Before) (h x : Head) : Type 0 where
+-- a node without its children: as it is laid out, and with what is kept inside it
+pub record SpelledHead (number : ℕ) (s : Settings) (keep : Keeping) (level : ℕ) (has : Bool) (b : Before) (h x : Head) : Type 0 where
   pub laid : Head
   pub spaced : IsSpacedHead number s level has b h laid
   pub respelled : IsRespelledHead keep s h laid x
 
 mutual
-  pub data SpelledNode (number : ℕ) (s : Settings) (keep : Bool) : ℕ → Before → Node → Node → Type 0 where
+  pub data SpelledNode (number : ℕ) (s : Settings) (keep : Keeping) : ℕ → Before → Node → Node → Type 0 where
     spelled : {level : ℕ} {b : Before} {h x : Head} {k l : Children} → SpelledHead number s keep level (has_block k) b h x → SpelledChildren number s keep level k l → SpelledNode number s keep level b (node h k) (node x l)
 
-  pub data SpelledChildren (number : ℕ) (s : Settings) (keep : Bool) : ℕ → Children → Children → Type 0 where
+  pub data SpelledChildren (number : ℕ) (s : Settings) (keep : Keeping) : ℕ → Children → Children → Type 0 where
     blockless : {level : ℕ} → SpelledChildren number s keep level no_children no_children
     spelled_block : {level : ℕ} {b : Before} {f g : Option DocumentFormat} {at at' : SourceSpan} {ns xs : Nodes} → IsSpacedBraced number s level ns (or_empty_document f) b g → at' ≡ at
         → SpelledNodes number s keep (level + 1) b ns xs → SpelledChildren number s keep level (children (document f at ns)) (children (document g at' xs))
 
-  pub data SpelledNodes (number : ℕ) (s : Settings) (keep : Bool) : ℕ → Before → Nodes → Nodes → Type 0 where
+  pub data SpelledNodes (number : ℕ) (s : Settings) (keep : Keeping) : ℕ → Before → Nodes → Nodes → Type 0 where
     nodeless : {level : ℕ} {b : Before} → SpelledNodes number s keep level b none none
     one_more : {level : ℕ} {b b' : Before} {n x : Node} {ns xs : Nodes} → SpelledNode number s keep level b n x → PassesNode number s n b' → SpelledNodes number s keep level b' ns xs
         → SpelledNodes number s keep level b (first n ns) (first x xs)
 
-abbrev pub SpelledDocument : ℕ → Settings → Bool → ℕ → Document → Document → Type 0
+abbrev pub SpelledDocument : ℕ → Settings → Keeping → ℕ → Document → Document → Type 0
 SpelledDocument number s keep level (document f at ns) (document g at' xs) = (b : Before) × IsSpacedContent number s level ns (or_empty_document f) b g × (at' ≡ at) × SpelledNodes number s keep level b ns xs
 
 -- what is laid out and has its spellings back
-module _ (number : ℕ) (s : Settings) (keep : Bool) where
+module _ (number : ℕ) (s : Settings) (keep : Keeping) where
   mutual
     pub spelled_node : (level : ℕ) (b : Before) (n m x : Node) → IsSpacedNode number s level b n m → IsRespelledNode keep s n m x → SpelledNode number s keep level b n x
     spelled_node level b (node h k) (node m j) (node x l) f r = spelled (record { laid = m; spaced = f.0; respelled = r.0 }) (spelled_children level k j l f.1 r.1)
@@ -50,7 +50,7 @@ module _ (number : ℕ) (s : Settings) (keep : Bool) where
   )
 
 -- the shape stays
-module _ {number : ℕ} {s : Settings} {keep : Bool} where
+module _ {number : ℕ} {s : Settings} {keep : Keeping} where
   pub same_block : {level : ℕ} {k l : Children} → SpelledChildren number s keep level k l → has_block l ≡ has_block k
   same_block blockless = refl
   same_block (spelled_block c at nodes) = refl

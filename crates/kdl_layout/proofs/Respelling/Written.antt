@@ -1,5 +1,5 @@
 -- What is laid out, with or without spellings: what each part prints, and around it the texts that are kept.
-use Rattle.kdl_layout.proofs.Common.{◌≡◌, ℕ, Bool, true, false, List, [], ◌∷◌, ◌++◌, map, refl, sym, ap, subst, ◌∙◌, Option, Some, None, option_map, append_assoc, append-nil, and_parts, list_all, ◌&&◌, not, is_some, Text, is_scalar, Value, print_value, IsWellFormed, IsIdentifierText, print_identifier, print_type, print_key, Identifier, EntryFormat, empty_format, Entry, unspelled, with_keep, autoformatted, entry_data, print_piece, NodeFormat, Head, Node, node, Children, Document, node_data, document_data, Settings, indentation, with_keep_if, or_empty, EntriesKeepNone, NodeKeepsNone, DocumentKeepsNone, AreNodeSpaces, KeptBefore, entry_leading, is_kept_format, IsSpelling, KeptSpelling, IsRespelled, IsRespelledIf, text_before, IsContinued, KeptLeading, TypeTexts, KeptTypeTextsIf, KeepsForm, KeptForm, entry_type_texts, node_type_texts, with_type_texts, IsTypedFormat, HasSpellings, HasSpellingsUnless, IsRespelledEntry, AreRespelledEntries, IsRespelledNode, IsRespelledDocument, SpacesTexts, IsSpacedLine, IsSpacedNode, IsSpacedDocument, AreScalars, IsWellFormedEntry, AreWellFormedEntries, IsWellFormedNode, AreWellFormed, NodeTexts, following, IsFormattedEntry, AreFormattedEntries, line_of, Before}
+use Rattle.kdl_layout.proofs.Common.{◌≡◌, ℕ, Bool, true, false, List, [], ◌∷◌, ◌++◌, map, refl, sym, ap, subst, ◌∙◌, Option, Some, None, option_map, append_assoc, append-nil, and_parts, list_all, ◌&&◌, not, is_some, Text, is_scalar, Value, print_value, IsWellFormed, IsIdentifierText, print_identifier, print_type, print_key, Identifier, EntryFormat, empty_format, Entry, unspelled, with_keep, autoformatted, entry_data, print_piece, NodeFormat, Head, Node, node, Children, Document, node_data, document_data, Settings, indentation, with_keep_if, or_empty, EntriesKeepNone, NodeKeepsNone, DocumentKeepsNone, Keeping, keeps_texts, AreNodeSpaces, KeptBefore, entry_leading, is_kept_format, IsSpelling, KeptSpelling, IsRespelled, IsRespelledIf, text_before, IsContinued, KeptLeading, KeptLeadingIf, TypeTexts, plain_format, KeptTypeTextsIf, KeepsForm, KeptForm, entry_type_texts, node_type_texts, with_type_texts, IsTypedFormat, HasSpellings, HasSpellingsIf, HasSpellingsUnless, IsRespelledEntry, AreRespelledEntries, IsRespelledNode, IsRespelledDocument, SpacesTexts, IsSpacedLine, IsSpacedNode, IsSpacedDocument, AreScalars, IsWellFormedEntry, AreWellFormedEntries, IsWellFormedNode, AreWellFormed, NodeTexts, following, IsFormattedEntry, AreFormattedEntries, line_of, Before}
 use Rattle.kdl_grammar.specs.ReadsBack.{front_text, value_text, entry_trailing}
 use Rattle.kdl_layout.proofs.NodeSpaces.{empty_spaces}
 use Rattle.kdl_layout.proofs.Texts.{name_of, no_format}
@@ -34,11 +34,6 @@ respelled_reads_if keep None None None e ok h = tt
 respelled_reads_if keep (Some i) (Some m) (Some i') e ok h = let x : m ≡ unspelled i = cc in respelled_reads keep i m i' x ok h
 respelled_reads_if keep _ _ _ e ok h = absurd assumption
 
--- the format of an entry that is laid out after a text, without its spelling
-abbrev pub plain_format : Text → Value → Option EntryFormat
-plain_format [] v = None
-plain_format (c ∷ t) v = Some (record empty_format { leading = (c ∷ t) ++ (32 ∷ []); value_repr = print_value v })
-
 -- the text before an entry: what is kept of its comments, and a space; or a text that continues the line
 pub data IsGap (s : Settings) (old before : Text) : Text → Type 0 where
   laid : IsGap s old before (before ++ (32 ∷ []))
@@ -47,6 +42,10 @@ pub data IsGap (s : Settings) (old before : Text) : Text → Type 0 where
 leading_gap : {s : Settings} {old laid r : Text} (t : Text) → laid ≡ t ++ (32 ∷ []) → KeptLeading s old laid r → IsGap s old t r
 leading_gap t e (KeptLeading.continued c) = IsGap.continued c
 leading_gap {s} {old} t e (KeptLeading.other n) = subst (IsGap s old t) (sym e) IsGap.laid
+
+leading_gap_if : (keep : Bool) {s : Settings} {old laid r : Text} (t : Text) → laid ≡ t ++ (32 ∷ []) → KeptLeadingIf keep s old laid r → IsGap s old t r
+leading_gap_if true t e k = leading_gap t e k
+leading_gap_if false {s} {old} t e k = subst (IsGap s old t) (sym (k ∙ e)) IsGap.laid
 
 -- the texts inside an entry: around its type, and around the `=`
 pub record Inside : Type 0 where
@@ -59,6 +58,15 @@ nothing_inside = record { ty = no_texts; after_key = []; after_eq = [] }
 
 abbrev pub inside_of : EntryFormat → Inside
 inside_of f = record { ty = entry_type_texts f; after_key = f.after_key; after_eq = f.after_eq }
+
+-- those in a format, if there is one
+abbrev pub format_inside : Option EntryFormat → Inside
+format_inside None = nothing_inside
+format_inside (Some f) = inside_of f
+
+pub plain_inside : (t : Text) (v : Value) → format_inside (plain_format t v) ≡ nothing_inside
+plain_inside [] v = refl
+plain_inside (c ∷ t) v = refl
 
 -- they are node-spaces, and none come after a type that is missing
 pub record IsInside (ty : Option Identifier) (x : Inside) : Type 0 where
@@ -128,6 +136,7 @@ pub record FormWritten (q : Option EntryFormat) (s : Settings) (old t : Text) (t
   pub spelled : IsSpelling v word
   pub is_gap : IsGap s old t gap
   pub is_inside : IsInside ty inside
+  pub of_format : inside ≡ format_inside q
   pub prints : Prints q gap word inside v
 
 plain_written : (s : Settings) (old t : Text) (ty : Option Identifier) (v : Value) → IsWellFormed v → FormWritten (plain_format t v) s old t ty v
@@ -138,6 +147,7 @@ plain_written s old t ty v ok = record {
   spelled = printed_spelling v ok;
   is_gap = IsGap.laid;
   is_inside = nothing_is_inside ty;
+  of_format = sym (plain_inside t v);
   prints = plain_prints t v;
 }
 
@@ -147,29 +157,35 @@ none_typed b (Some i) t x e h = absurd cc
 none_typed false None t x e h = ap (λ (z : TypeTexts). z.after) h
 none_typed true None t x e h = ap (λ (z : TypeTexts). z.after) h
 
-form_inside : (s : Settings) (e : Entry) (ty : Option Identifier) (f g : EntryFormat) (l : Text) → (ty ≡ None → e.ty ≡ None) → KeepsForm s e f l g → IsInside ty (inside_of g)
-form_inside s e ty f g l untyped k = record {
+form_inside : (keep : Bool) (s : Settings) (e : Entry) (ty : Option Identifier) (f g : EntryFormat) (l value : Text) → (ty ≡ None → e.ty ≡ None) → KeepsForm keep s e f l value g → IsInside ty (inside_of g)
+form_inside keep s e ty f g l value untyped k = record {
   ty_spaces = type_spaces_if (not s.no_comments && is_some e.ty) (entry_type_texts f) (entry_type_texts g) k.ty;
   after_key = place_if_spaces (not s.no_comments && is_some e.name) f.after_key g.after_key k.after_key;
   after_eq = place_if_spaces (not s.no_comments && is_some e.name) f.after_eq g.after_eq k.after_eq;
   untyped = λ h. none_typed (not s.no_comments) e.ty (entry_type_texts f) (entry_type_texts g) (untyped h) k.ty;
 }
 
-form_written : (s : Settings) (e : Entry) (ty : Option Identifier) (t : Text) (o p q : Option EntryFormat) → (ty ≡ None → e.ty ≡ None) → p ≡ plain_format t e.value → IsWellFormed e.value → KeptForm s e o p q
-    → FormWritten q s (entry_leading o) t ty e.value
-form_written s e ty t _ p _ u h ok (KeptForm.kept {f = f} {g = g} d k) =
+formed_written : (keep : Bool) (s : Settings) (e : Entry) (ty : Option Identifier) (t value : Text) (f g : EntryFormat) (p : Option EntryFormat) → (ty ≡ None → e.ty ≡ None) → p ≡ plain_format t e.value → IsSpelling e.value value
+    → KeepsForm keep s e f (text_before p) value g → FormWritten (Some g) s f.leading t ty e.value
+formed_written keep s e ty t value f g p u h d k =
     let l : text_before p ≡ t ++ (32 ∷ []) = ap text_before h ∙ leading_is t e.value in
     record {
       word = g.value_repr;
       gap = g.leading;
       inside = inside_of g;
       spelled = subst (IsSpelling e.value) (sym k.value_repr) d;
-      is_gap = leading_gap t l k.leading;
-      is_inside = form_inside s e ty f g (text_before p) u k;
+      is_gap = leading_gap_if keep t l k.leading;
+      is_inside = form_inside keep s e ty f g (text_before p) value u k;
+      of_format = refl;
       prints = formed g e.value k.trailing k.autoformat_keep;
     }
-form_written s e ty t o p _ u h ok (KeptForm.other n) = subst (λ (x : Option EntryFormat). FormWritten x s (entry_leading o) t ty e.value) (sym h) (plain_written s (entry_leading o) t ty e.value ok)
-form_written s e ty t o p _ u h ok KeptForm.formless = subst (λ (x : Option EntryFormat). FormWritten x s (entry_leading o) t ty e.value) (sym h) (plain_written s (entry_leading o) t ty e.value ok)
+
+form_written : (keep : Bool) (s : Settings) (e : Entry) (ty : Option Identifier) (t : Text) (o p q : Option EntryFormat) → (ty ≡ None → e.ty ≡ None) → p ≡ plain_format t e.value → IsWellFormed e.value → KeptForm keep s e o p q
+    → FormWritten q s (entry_leading o) t ty e.value
+form_written keep s e ty t _ p _ u h ok (KeptForm.kept {f = f} {g = g} x d k) = formed_written keep s e ty t f.value_repr f g p u h d k
+form_written keep s e ty t _ p _ u h ok (KeptForm.bare {f = f} n k) = subst (λ (x : Option EntryFormat). FormWritten x s f.leading t ty e.value) (sym h) (plain_written s f.leading t ty e.value ok)
+form_written keep s e ty t _ p _ u h ok (KeptForm.other {f = f} {g = g} n k w) = formed_written keep s e ty t (print_value e.value) f g p u h (printed_spelling e.value ok) k
+form_written keep s e ty t o p _ u h ok KeptForm.formless = subst (λ (x : Option EntryFormat). FormWritten x s (entry_leading o) t ty e.value) (sym h) (plain_written s (entry_leading o) t ty e.value ok)
 
 -- an entry that is laid out: what is kept of the text before it, and what it prints
 pub record IsWrittenEntry (s : Settings) (e e' : Entry) : Type 0 where
@@ -227,8 +243,8 @@ module _ (s : Settings) (e m : Entry) (t : Text) (k : KeptBefore s e.format t) (
     unflagged = n;
   }
 
-  spelled_written : (e' : Entry) → HasSpellings s e m e' → IsWrittenEntry s e e'
-  spelled_written e' h = entry_written true e' h.name h.ty h.value (form_written s e e'.ty t e.format m.format e'.format (none_if true e.ty m.ty e'.ty h.ty) (format_is e m t is n) w.2 h.format)
+  spelled_written : (keep : Bool) (e' : Entry) → HasSpellings keep s e m e' → IsWrittenEntry s e e'
+  spelled_written keep e' h = entry_written keep e' h.name h.ty h.value (form_written keep s e e'.ty t e.format m.format e'.format (none_if keep e.ty m.ty e'.ty h.ty) (format_is e m t is n) w.2 h.format)
 
   respelled_written : (e' : Entry) → e' ≡ m → IsWrittenEntry s e e'
   respelled_written e' h =
@@ -245,19 +261,19 @@ unflagged_same true e h = ap (λ (o : Option EntryFormat). record e { format = o
     go None h = refl
     go (Some f) h = absurd cc
 
-pub written_entry : (s : Settings) (keep : Bool) (e m e' : Entry) → IsFormattedEntry s e m → IsRespelledEntry keep s e m e' → is_kept_format (with_keep_if s.entry_autoformate_keep e).format ≡ false → IsWellFormedEntry (entry_data e) → IsWrittenEntry s e e'
+pub written_entry : (s : Settings) (keep : Keeping) (e m e' : Entry) → IsFormattedEntry s e m → IsRespelledEntry keep s e m e' → is_kept_format (with_keep_if s.entry_autoformate_keep e).format ≡ false → IsWellFormedEntry (entry_data e) → IsWrittenEntry s e e'
 written_entry s keep e m e' (t, k, q) h n w =
     let same = unflagged_same s.entry_autoformate_keep e n in
     let k' : KeptBefore s e.format t = subst (λ (x : Entry). KeptBefore s x.format t) same k in
     let q' : m ≡ following t (autoformatted e) = q ∙ ap (λ (x : Entry). following t (autoformatted x)) same in
     let n' : is_kept_format e.format ≡ false = ap (λ (x : Entry). is_kept_format x.format) (sym same) ∙ n in
-    go keep k' q' n' h
+    go (keeps_texts keep) k' q' n' h
   where
-    spelled : (b : Bool) → b ≡ false → (t : Text) → KeptBefore s e.format t → m ≡ following t (autoformatted e) → is_kept_format e.format ≡ false → HasSpellingsUnless b s e m e' → IsWrittenEntry s e e'
+    spelled : (b : Bool) → b ≡ false → (t : Text) → KeptBefore s e.format t → m ≡ following t (autoformatted e) → is_kept_format e.format ≡ false → HasSpellingsUnless b keep.spelling s e m e' → IsWrittenEntry s e e'
     spelled true x t k q n h = absurd cc
-    spelled false x t k q n h = spelled_written s e m t k q n w e' h
+    spelled false x t k q n h = spelled_written s e m t k q n w keep.spelling e' h
 
-    go : (keep : Bool) → KeptBefore s e.format t → m ≡ following t (autoformatted e) → is_kept_format e.format ≡ false → IsRespelledEntry keep s e m e' → IsWrittenEntry s e e'
+    go : (b : Bool) → KeptBefore s e.format t → m ≡ following t (autoformatted e) → is_kept_format e.format ≡ false → HasSpellingsIf b keep.spelling s e m e' → IsWrittenEntry s e e'
     go false k q x h = respelled_written s e m t k q x w e' h
     go true k q x h = spelled (is_kept_format (with_keep_if s.entry_autoformate_keep e).format) n t k q x h
 
@@ -277,11 +293,11 @@ pub record IsTypedLine (number : ℕ) (s : Settings) (level : ℕ) (has : Bool) 
   pub untyped : ty ≡ None → types.after ≡ []
   pub bare : OnlySpaces (node_type_texts f) → types ≡ no_texts
 
-pub typed_line : (number : ℕ) (s : Settings) (level : ℕ) (has : Bool) (b : Before) (f : NodeFormat) (keep : Bool) (o m o' : Option Identifier) (g g' : Option NodeFormat) → IsRespelledIf keep o m o'
-    → IsSpacedLine number s level has b f g → IsTypedFormat (keep && not s.no_comments && is_some o) f g g' → IsTypedLine number s level has b f o' g'
-typed_line number s level has b f keep o m o' g g' r (k, kept, e) t = go (keep && not s.no_comments && is_some o) refl t
+pub typed_line : (number : ℕ) (s : Settings) (level : ℕ) (has : Bool) (b : Before) (f : NodeFormat) (keep : Keeping) (o m o' : Option Identifier) (g g' : Option NodeFormat) → IsRespelledIf keep.spelling o m o'
+    → IsSpacedLine number s level has b f g → IsTypedFormat (keeps_texts keep && not s.no_comments && is_some o) f g g' → IsTypedLine number s level has b f o' g'
+typed_line number s level has b f keep o m o' g g' r (k, kept, e) t = go (keeps_texts keep && not s.no_comments && is_some o) refl t
   where
-    go : (c : Bool) → (keep && not s.no_comments && is_some o) ≡ c → IsTypedFormat c f g g' → IsTypedLine number s level has b f o' g'
+    go : (c : Bool) → (keeps_texts keep && not s.no_comments && is_some o) ≡ c → IsTypedFormat c f g g' → IsTypedLine number s level has b f o' g'
     go false x t = record { texts = k; types = no_texts; kept = kept; is = t ∙ e; spaces = no_type_spaces; untyped = λ h. refl; bare = λ h. refl }
     go true x (types, kt, q) = record {
       texts = k;
@@ -289,7 +305,7 @@ typed_line number s level has b f keep o m o' g g' r (k, kept, e) t = go (keep &
       kept = kept;
       is = q ∙ ap (option_map (with_type_texts types)) e;
       spaces = type_spaces_if true (node_type_texts f) types kt;
-      untyped = λ h. let a = none_if keep o m o' r h in let c = (and_parts (keep && not s.no_comments) (is_some o) x).1 in let z : false ≡ true = ap is_some (sym a) ∙ c in absurd cc;
+      untyped = λ h. let a = none_if keep.spelling o m o' r h in let c = (and_parts (keeps_texts keep && not s.no_comments) (is_some o) x).1 in let z : false ≡ true = ap is_some (sym a) ∙ c in absurd cc;
       bare = λ h. types_bare_if true (node_type_texts f) types h kt;
     }
 
@@ -299,11 +315,11 @@ pub record IsWrittenHead (number : ℕ) (s : Settings) (level : ℕ) (has : Bool
   pub entries : AreWrittenEntries s h.entries h'.entries
   pub format : IsTypedLine number s level has b (or_empty h.format) h'.ty h'.format
 
-pub head_line : {number : ℕ} {s : Settings} {keep : Bool} (level : ℕ) (has : Bool) (b : Before) (h x : Head) → SpelledHead number s keep level has b h x → IsTypedLine number s level has b (or_empty h.format) x.ty x.format
+pub head_line : {number : ℕ} {s : Settings} {keep : Keeping} (level : ℕ) (has : Bool) (b : Before) (h x : Head) → SpelledHead number s keep level has b h x → IsTypedLine number s level has b (or_empty h.format) x.ty x.format
 head_line {number} {s} {keep} level has b h x f =
     typed_line number s level has b (or_empty h.format) keep h.ty f.laid.ty x.ty f.laid.format x.format f.respelled.ty f.spaced.format f.respelled.format
 
-module _ (s : Settings) (no_keep : s.entry_autoformate_keep ≡ false) (keep : Bool) where
+module _ (s : Settings) (no_keep : s.entry_autoformate_keep ≡ false) (keep : Keeping) where
   no_flag : (e : Entry) → is_kept_format e.format ≡ false → is_kept_format (with_keep_if s.entry_autoformate_keep e).format ≡ false
   no_flag e h = ap (λ (b : Bool). is_kept_format (with_keep_if b e).format) no_keep ∙ h
 
@@ -314,30 +330,28 @@ module _ (s : Settings) (no_keep : s.entry_autoformate_keep ≡ false) (keep : B
 
   pub written_head : {number : ℕ} (level : ℕ) (has : Bool) (b : Before) (h x : Head) (k : Children) → SpelledHead number s keep level has b h x → EntriesKeepNone h.entries → IsWellFormedNode (node_data (node h k)) → IsWrittenHead number s level has b h x
   written_head level has b h x k f o w = record {
-    ty = respelled_reads_if keep h.ty f.laid.ty x.ty f.spaced.ty w.0 f.respelled.ty;
-    name = respelled_reads keep h.name f.laid.name x.name f.spaced.name w.1 f.respelled.name;
+    ty = respelled_reads_if keep.spelling h.ty f.laid.ty x.ty f.spaced.ty w.0 f.respelled.ty;
+    name = respelled_reads keep.spelling h.name f.laid.name x.name f.spaced.name w.1 f.respelled.name;
     entries = written_entries h.entries f.laid.entries x.entries f.spaced.entries f.respelled.entries o w.2;
     format = head_line level has b h x f;
   }
 
 -- a node that is laid out, where none of its entries was flagged, and memory can hold it
-pub record IsWrittenNode (number : ℕ) (s : Settings) (level : ℕ) (b : Before) (n x : Node) : Type 0 where
-  pub keep : Bool
+pub record IsWrittenNode (number : ℕ) (s : Settings) (keep : Keeping) (level : ℕ) (b : Before) (n x : Node) : Type 0 where
   pub no_keep : s.entry_autoformate_keep ≡ false
   pub laid : SpelledNode number s keep level b n x
   pub unflagged : NodeKeepsNone n
   pub fit : IsWellFormedNode (node_data n)
 
-pub record IsWrittenDocument (number : ℕ) (s : Settings) (level : ℕ) (d x : Document) : Type 0 where
-  pub keep : Bool
+pub record IsWrittenDocument (number : ℕ) (s : Settings) (keep : Keeping) (level : ℕ) (d x : Document) : Type 0 where
   pub no_keep : s.entry_autoformate_keep ≡ false
   pub laid : SpelledDocument number s keep level d x
   pub unflagged : DocumentKeepsNone d
   pub fit : AreWellFormed (document_data d)
 
-module _ (number : ℕ) (s : Settings) (no_keep : s.entry_autoformate_keep ≡ false) (keep : Bool) (level : ℕ) where
-  pub written_node : (b : Before) (n m x : Node) → IsSpacedNode number s level b n m → IsRespelledNode keep s n m x → NodeKeepsNone n → IsWellFormedNode (node_data n) → IsWrittenNode number s level b n x
-  written_node b n m x f r o w = record { keep = keep; no_keep = no_keep; laid = spelled_node number s keep level b n m x f r; unflagged = o; fit = w }
+module _ (number : ℕ) (s : Settings) (no_keep : s.entry_autoformate_keep ≡ false) (keep : Keeping) (level : ℕ) where
+  pub written_node : (b : Before) (n m x : Node) → IsSpacedNode number s level b n m → IsRespelledNode keep s n m x → NodeKeepsNone n → IsWellFormedNode (node_data n) → IsWrittenNode number s keep level b n x
+  written_node b n m x f r o w = record { no_keep = no_keep; laid = spelled_node number s keep level b n m x f r; unflagged = o; fit = w }
 
-  pub written_document : (d m x : Document) → IsSpacedDocument number s level d m → IsRespelledDocument keep s d m x → DocumentKeepsNone d → AreWellFormed (document_data d) → IsWrittenDocument number s level d x
-  written_document d m x f r o w = record { keep = keep; no_keep = no_keep; laid = spelled_document number s keep level d m x f r; unflagged = o; fit = w }
+  pub written_document : (d m x : Document) → IsSpacedDocument number s level d m → IsRespelledDocument keep s d m x → DocumentKeepsNone d → AreWellFormed (document_data d) → IsWrittenDocument number s keep level d x
+  written_document d m x f r o w = record { no_keep = no_keep; laid = spelled_document number s keep level d m x f r; unflagged = o; fit = w }

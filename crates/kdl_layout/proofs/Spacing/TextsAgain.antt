@@ -1,5 +1,5 @@
 -- What is laid out is the same once it is laid out again, however many blank lines are kept.
-use Rattle.kdl_layout.proofs.Common.{◌≡◌, ℕ, zero, suc, ◌+◌, Bool, true, false, List, ◌∷◌, ◌++◌, map, refl, sym, ap, subst, ◌∙◌, append_assoc, append-nil, Option, Some, option_map, None, [], list_all, list_any, if◌then◌else◌, ◌||◌, ◌&&◌, not, is_some, Text, is_space, NodeFormat, DocumentFormat, Node, Nodes, Item, GapItems, on_line, at_start, empty_lines, last_in, one_if, past_items, past_node, read, spaced_lines, newlines, Settings, indentation, or_empty, or_empty_document, newline_if_none, in_braces, ItemsIn, without_bom, WrittenUnless, Passes, PassesText, SpacesTexts, IsSpacedLine, PassesNode, PassesNodes, IsSpacedContent, IsSpacedBraced, SpacedLines, SpacesContent, PassesFormat, NodeTexts, line_of, has_block, content_of, IsTypedFormat, with_type_texts, Before, Thing, Other, is_newline_char}
+use Rattle.kdl_layout.proofs.Common.{◌≡◌, Keeping, keeps_texts, ℕ, zero, suc, ◌+◌, Bool, true, false, List, ◌∷◌, ◌++◌, map, refl, sym, ap, subst, ◌∙◌, append_assoc, append-nil, Option, Some, option_map, None, [], list_all, list_any, if◌then◌else◌, ◌||◌, ◌&&◌, not, is_some, Text, is_space, NodeFormat, DocumentFormat, Node, Nodes, Item, GapItems, on_line, at_start, empty_lines, last_in, one_if, past_items, past_node, read, spaced_lines, newlines, Settings, indentation, or_empty, or_empty_document, newline_if_none, in_braces, ItemsIn, without_bom, WrittenUnless, Passes, PassesText, SpacesTexts, IsSpacedLine, PassesNode, PassesNodes, IsSpacedContent, IsSpacedBraced, SpacedLines, SpacesContent, PassesFormat, NodeTexts, line_of, has_block, content_of, IsTypedFormat, with_type_texts, Before, Thing, Other, is_newline_char}
 use Rattle.std.proofs.lemmas.List.Folds.{list_any-append}
 use Rattle.kdl_layout.proofs.Listing.ItemsUnique.{gap_in_det}
 use Rattle.kdl_layout.proofs.Rewriting.LinesAgain.{newline_items}
@@ -199,12 +199,12 @@ module _ (s : Settings) (ok : list_all is_space s.indent ≡ true) where
       subst (λ (t : Text). Passes s.no_comments (Thing 0 1 Other) t q) (sym (append-nil k.following)) (subst (λ (c : Before). Passes s.no_comments c k.following q) (line_ended k.comment) z) in
       passes_as k'.gap z' ∙ k'.state p x ∙ read_nothing (again p)
 
-  module _ (keep : Bool) where
+  module _ (keep : Keeping) where
     pub node_passes : (number : ℕ) (p q : Before) {level : ℕ} {b : Before} {n x : Node} → SpelledNode number s keep level b n x → PassesNode number s n p → PassesNode number s x q → IsAgain number p q
     node_passes zero p q f x y = tt
     node_passes (suc n) p q (spelled {level = level} {b = b} {h = h} {x = h'} {k = k} f kids) x y =
         format_passes n level (has_block k) b p q (or_empty h.format) f.laid.format f.spaced.format x
-        (typed_passes (suc n) s (keep && not s.no_comments && is_some h.ty) (or_empty h.format) f.laid.format h'.format q f.respelled.format y)
+        (typed_passes (suc n) s (keeps_texts keep && not s.no_comments && is_some h.ty) (or_empty h.format) f.laid.format h'.format q f.respelled.format y)
 
     nodes_pass : (number : ℕ) (b c e q : Before) {level : ℕ} {a : Before} {ns xs : Nodes} → SpelledNodes number s keep level a ns xs → IsAgain number b c → PassesNodes number s b ns e → PassesNodes number s c xs q → IsAgain number e q
     nodes_pass number b c e q nodeless i x y = subst (λ (z : Before). IsAgain number z q) (sym x) (subst (IsAgain number b) (sym y) i)

@@ -58,8 +58,12 @@ emptied_type e = record e { ty = emptied e.ty }
 abbrev pub unspelled_value : Entry → Entry
 unspelled_value e = record e { format = option_map without_value e.format }
 
--- whether the format of an entry with the value v has a spelling of v
-abbrev pub HasSpelling : Value → Option EntryFormat → Bool → Type 0
-HasSpelling v None b = b ≡ false
-HasSpelling v (Some f) true = IsSpelling v f.value_repr
-HasSpelling v (Some f) false = IsSpelling v f.value_repr → ⊥
+-- the format of an entry with the value v has a spelling of v
+abbrev pub HasSpelling : Value → Option EntryFormat → Type 0
+HasSpelling v None = ⊥
+HasSpelling v (Some f) = IsSpelling v f.value_repr
+
+-- whether that is kept
+abbrev pub KeepsValue : Bool → Value → Option EntryFormat → Bool → Type 0
+KeepsValue keep v o true = (keep ≡ true) × HasSpelling v o
+KeepsValue keep v o false = keep ≡ true → HasSpelling v o → ⊥

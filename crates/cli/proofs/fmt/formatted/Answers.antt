@@ -1,8 +1,12 @@
-use Rattle.std.proofs.Common.{◌≡◌, false, not, ap, refl, subst, sym}
-use Rattle.kdl.specs.Words.{CommentsStay, IndentsBySpaces, IsDocument, IsLaidDocument, Settings, Text, document_prints, document_tree, settings}
-use Rattle.cli.specs.Formatted.{layout_settings}
+use Rattle.std.proofs.Common.{◌≡◌, Bool, true, false, ◌||◌, not, ap, refl, subst, sym}
+use Rattle.kdl.specs.Words.{AllCommentsStay, IndentsBySpaces, IsDocument, IsLaidDocument, Settings, Text, document_prints, document_tree, settings}
+use Rattle.cli.specs.Formatted.{layout_keeping, layout_settings}
 use Rattle.cli.proofs.Indents.{config_is, indents_by_spaces}
 use Rattle.cli.proofs.fmt.formatted.Goals as goal
+
+or_true : (b : Bool) → (b || true) ≡ true
+or_true true = refl
+or_true false = refl
 
 pub returns-clause-says : goal.returns-clause-says
 returns-clause-says c x h =
@@ -25,9 +29,9 @@ returns-clause-laid_out c =
     let no : c.build.result.no_comments ≡ false = ap (λ (s : Settings). s.no_comments) is in
     let none = c.in_ok-document.ensures.keeps_none in
     let spaces : IndentsBySpaces (layout_settings s) = indents_by_spaces s.indent in
-    let comments = (c.in_ok-autoformat_layout.ensures.rereads (subst IndentsBySpaces (sym is) spaces)).comments keep no none in
-    let spaced : IsLaidDocument (not s.respell) (not s.expand) s.blank_lines (layout_settings s) 0 (document_tree d) (document_tree e) =
-    subst (λ (x : Settings). IsLaidDocument (not s.respell) (not s.expand) s.blank_lines x x.indent_level (document_tree d) (document_tree e)) is c.in_ok-autoformat_layout.ensures.formatted in
+    let comments = c.in_ok-autoformat_layout.ensures.comments (or_true (not s.respell)) no (subst IndentsBySpaces (sym is) spaces) keep none in
+    let spaced : IsLaidDocument (layout_keeping s) (not s.expand) s.blank_lines (layout_settings s) 0 (document_tree d) (document_tree e) =
+    subst (λ (x : Settings). IsLaidDocument (layout_keeping s) (not s.expand) s.blank_lines x x.indent_level (document_tree d) (document_tree e)) is c.in_ok-autoformat_layout.ensures.formatted in
     let prints = c.printed_reads_once.ensures.text e c.in_ok-out.out c.in_ok-out.ensures.ok in
     record {
       before = document_tree d;
@@ -35,6 +39,6 @@ returns-clause-laid_out c =
       laid = c.in_ok-document.ensures.laid;
       formatted = spaced;
       prints = prints;
-      comments = subst (CommentsStay (document_tree d)) (sym prints) comments;
-      again = λ y g. c.second_spaced_layout.ensures.document (not s.respell) (not s.expand) s.blank_lines (layout_settings s) 0 (document_tree d) (document_tree e) y spaces refl none spaced g;
+      comments = subst (AllCommentsStay (document_tree d)) (sym prints) comments;
+      again = λ y g. c.second_spaced_layout.ensures.document (layout_keeping s) (not s.expand) s.blank_lines (layout_settings s) 0 (document_tree d) (document_tree e) y spaces refl none spaced g;
     }

@@ -1,4 +1,4 @@
-use Rattle.kdl_layout.proofs.Common.{sym, ◌∙◌, chars}
+use Rattle.kdl_layout.proofs.Common.{sym, ◌∙◌, ◌++◌, ap, chars, line_text, Text}
 use Rattle.kdl_layout.proofs.kept.kept_place.Goals as goal
 use Rattle.kdl_layout.proofs.Respelling.Kept.{place_copied, place_of_spaces, place_refused}
 
@@ -10,7 +10,10 @@ returns-then-is_kdl_space c = rw c.if-not-is_kept.false (place_of_spaces (chars 
 
 pub returns-then-branch : goal.returns-then-branch
 returns-then-branch c =
-    rw c.if-not-is_kept.false (place_copied c.from_str.result c.args.text.now (sym c.is_kdl_space.ensures ∙ c.if-is_kdl_space.false) (c.in_ok-is_node_spaces.ensures.0 c.if-branch.true) c.from_str.ensures.ok)
+    let lined = c.in_ok-push_line_text.ensures ∙ ap (λ (t : Text). t ++ line_text (chars c.args.text.now)) c.no_text-kept.ensures in
+    rw c.if-not-is_kept.false (place_copied (chars c.args.text.now) _ lined (sym c.is_kdl_space.ensures ∙ c.if-is_kdl_space.false) (rw c.as_str.ensures.value at (c.in_ok-is_node_spaces.ensures.0 c.if-branch.true)))
 
 pub returns : goal.returns
-returns c = rw c.if-not-is_kept.false (place_refused (chars c.args.text.now) _ _ c.if-branch.false c.in_ok-is_node_spaces.ensures.1 c.no_text-2.ensures)
+returns c =
+    let lined = c.in_ok-push_line_text.ensures ∙ ap (λ (t : Text). t ++ line_text (chars c.args.text.now)) c.no_text-kept.ensures in
+    rw c.if-not-is_kept.false (place_refused (chars c.args.text.now) _ _ _ lined c.if-branch.false (rw c.as_str.ensures.value at c.in_ok-is_node_spaces.ensures.1) c.no_text-2.ensures)

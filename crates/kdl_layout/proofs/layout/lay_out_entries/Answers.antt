@@ -1,4 +1,4 @@
-use Rattle.kdl_layout.proofs.Common.{arith, map, subst, sym, ap, ◌∙◌, entry_tree, cleared, settings}
+use Rattle.kdl_layout.proofs.Common.{arith, map, subst, sym, ap, ◌∙◌, entry_tree, cleared, keeping, settings}
 use Rattle.kdl_layout.proofs.Respelling.Leaves.{entry_stays}
 use Rattle.kdl_layout.proofs.Formatting.EntriesRead.{Stays, all_stay, each_stays, flagged_stays, laid_stays}
 use Rattle.kdl_layout.proofs.Loops.{LaidEntry, turned_start, turned_more, turned_all, turned_same, turned_exchanged, turned_each, turned_each_set, entries_laid, entries_fit}
@@ -6,18 +6,18 @@ use Rattle.kdl_layout.proofs.layout.lay_out_entries.Goals as goal
 use Rattle.kdl_layout.proofs.Respelling.Entries.{flag_cleared}
 
 pub loop-entry-init : goal.loop-entry-init
-loop-entry-init c = turned_start entry_tree (LaidEntry c.args.layout.now.keep_spelling (settings c.args.layout.now.config)) c.deref_mut-entry-items.result.now
+loop-entry-init c = turned_start entry_tree (LaidEntry (keeping c.args.layout.now) (settings c.args.layout.now.config)) c.deref_mut-entry-items.result.now
 
 pub loop-entry-preserved : goal.loop-entry-preserved
 loop-entry-preserved c =
     let l = c.loop-entry in
-    turned_more entry_tree (LaidEntry c.args.layout.now.keep_spelling (settings c.args.layout.now.config)) l.entry-items l.entry-index c.lay_out_entry.new.entry c.entry-item.result _ (omega arith)
+    turned_more entry_tree (LaidEntry (keeping c.args.layout.now) (settings c.args.layout.now.config)) l.entry-items l.entry-index c.lay_out_entry.new.entry c.entry-item.result _ (omega arith)
     (c.in_ok-lay_out_entry.ensures.formatted, c.lay_out_entry.ensures.well_formed) l.invariant
 
 pub returns-in_err-lay_out_entry-clause-same : goal.returns-in_err-lay_out_entry-clause-same
 returns-in_err-lay_out_entry-clause-same c =
     let l = c.loop-entry in
-    let keep = c.args.layout.now.keep_spelling in
+    let keep = keeping c.args.layout.now in
     let s = settings c.args.layout.now.config in
     turned_exchanged entry_tree (LaidEntry keep s) cleared (λ e e' k. entry_stays keep s e e' k.0) c.args.entries.now.len l.entry-index l.entry-items c.deref_mut-entry-items.result.now c.args.entries.now.items
     c.lay_out_entry.new.entry c.entry-item.result c.deref_mut-entry-items.ensures.value (omega arith) (omega arith) l.invariant (ap cleared c.in_err-lay_out_entry.ensures.flagged ∙ flag_cleared s.entry_autoformate_keep _)
@@ -25,7 +25,7 @@ returns-in_err-lay_out_entry-clause-same c =
 pub returns-in_err-lay_out_entry-clause-reads : goal.returns-in_err-lay_out_entry-clause-reads
 returns-in_err-lay_out_entry-clause-reads c k a =
     let l = c.loop-entry in
-    let keep = c.args.layout.now.keep_spelling in
+    let keep = keeping c.args.layout.now in
     let s = settings c.args.layout.now.config in
     each_stays s _
     (turned_each_set entry_tree (LaidEntry keep s) (Stays s) (λ e e' d h. laid_stays keep s e e' d.0 d.1 h) c.args.entries.now.len l.entry-index l.entry-items c.deref_mut-entry-items.result.now c.args.entries.now.items
@@ -35,7 +35,7 @@ returns-in_err-lay_out_entry-clause-reads c k a =
 pub returns : goal.returns
 returns c =
     let l = c.loop-entry in
-    let keep = c.args.layout.now.keep_spelling in
+    let keep = keeping c.args.layout.now in
     let s = settings c.args.layout.now.config in
     let old = c.args.entries.now in
     let here = c.deref_mut-entry-items.result.now in

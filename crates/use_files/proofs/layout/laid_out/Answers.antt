@@ -1,6 +1,6 @@
 use Rattle.std.proofs.Common.{◌≡◌, Bool, false, chars, ap, subst, sym}
 use Rattle.kdl_laws.specs.ClientWords.{IsSpacedOut}
-use Rattle.kdl.specs.Words.{IndentsBySpaces, IsDocument, Settings, Text, defaults, document_prints, settings, text_of}
+use Rattle.kdl.specs.Words.{IndentsBySpaces, IsDocument, Keeping, Settings, keeping, Text, defaults, document_prints, settings, text_of}
 use Rattle.use_files.proofs.layout.laid_out.Goals as goal
 
 pub returns-clause-says : goal.returns-clause-says
@@ -26,6 +26,6 @@ returns-clause-laid_out c =
     let comments = (c.in_ok-autoformat_layout.ensures.rereads (subst IndentsBySpaces (sym is) c.defaults_indent_by_spaces.ensures)).comments keep no none in
     let l = record c.new.result { blank_lines = 1 } in
     let out = c.in_ok-to_string.field-0 in
-    subst (λ (k : Bool). IsSpacedOut k false 1 (chars c.args.text.now) (text_of out)) c.new.ensures.keep_spelling
-    (subst (λ (k : Bool). IsSpacedOut l.keep_spelling k 1 (chars c.args.text.now) (text_of out)) off
+    subst (λ (k : Keeping). IsSpacedOut k false 1 (chars c.args.text.now) (text_of out)) c.new.ensures.keeping
+    (subst (λ (k : Bool). IsSpacedOut (keeping l) k 1 (chars c.args.text.now) (text_of out)) off
     (c.texts_are_spaced_out.ensures (chars c.args.text.now) l d e out is c.in_ok-document.ensures.laid none c.in_ok-autoformat_layout.ensures.formatted comments c.in_ok-to_string.ensures.ok))
