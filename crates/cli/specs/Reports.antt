@@ -1,6 +1,6 @@
 -- How the faults of a text are reported.
 use Rattle.std.specs.List.{flat_map}
-use Rattle.std.specs.Prelude.{◌≡◌, ◌++◌, ◌∷◌, [], Bool, List, chars, option_map, ℕ}
+use Rattle.std.specs.Prelude.{◌≡◌, ◌++◌, ◌∷◌, ◌-◌, ◌==◌, [], Bool, List, chars, codes, decimal, if◌then◌else◌, length, min, option_map, take, ℕ}
 use Rattle.std.specs.Str.{encode_utf8_all}
 use Rattle.kdl_report.specs.Hints.{hint_of}
 use Rattle.kdl_report.specs.Object.{fault_json}
@@ -12,6 +12,8 @@ use Rattle.cli_world.specs.Acts.{Effect}
 use Rattle.cli_world.specs.Acts.Effect.{reports}
 use Rattle.cli_world.specs.Seen.{shown_name}
 use Rattle.cli_world.specs.declared.status.Status.TheVariants.{Found}
+use Rattle.cli.specs.declared.report.Extent.{Extent}
+use Rattle.cli.specs.declared.report.Extent.TheVariants.{All, First}
 use Rattle.cli.specs.declared.report.Form.{Form}
 use Rattle.cli.specs.declared.report.Form.TheVariants.{Human, Short, Json}
 use Rattle.cli.specs.declared.report.Style.{Style}
@@ -24,8 +26,26 @@ fault_report Short color name text fault = encode_utf8_all (one_line (chars name
 fault_report Json color name text fault = fault_json name (chars text) fault
 
 -- the reports of faults, one after another
+abbrev pub fault_reports : Style → (name text : List ℕ) → List KdlDiagnostic → List ℕ
+fault_reports style name text faults = flat_map (fault_report style.form style.color name text) faults
+
+-- how many of n faults are reported: for people 100 at most, unless they ask for all
+abbrev pub reported : Extent → Form → ℕ → ℕ
+reported All form n = n
+reported First Human n = min n 100
+reported First _ n = n
+
+-- the line on n faults that are left out, as `and 2 more`, and an empty line
+abbrev pub rest_line : ℕ → List ℕ
+rest_line n = if n == 0 then [] else codes "and " ++ decimal n ++ codes " more\n\n"
+
+-- the report of the faults of a text, of which the first m are reported
+abbrev pub report_to : ℕ → Style → (name text : List ℕ) → List KdlDiagnostic → List ℕ
+report_to m style name text faults = fault_reports style (shown_name name) text (take m faults) ++ rest_line (length faults - m)
+
+-- the report of the faults of a text
 abbrev pub faults_report : Style → (name text : List ℕ) → List KdlDiagnostic → List ℕ
-faults_report style name text faults = flat_map (fault_report style.form style.color (shown_name name) text) faults
+faults_report style name text faults = report_to (reported style.extent style.form (length faults)) style name text faults
 
 -- the faults of the text are reported
 abbrev pub ReportsFaults : Style → (name text : List ℕ) → Effect → Type 0

@@ -23,7 +23,7 @@ pub fn formatted(
     // The output is a document with the data of the text, and no others.
     ensures says { IfOk result (λ out. (x : Nodes) → IsDocument (chars text.now) x
         → IsDocument (text_of out) x) }
-    // It is what layout makes of the text's document: its comments are kept, and a second layout changes nothing.
+    // It is what layout makes of the text's document: all its comments are kept, and a second layout changes nothing.
     ensures laid_out { IfOk result (λ out. IsFormatted settings.now (chars text.now) (text_of out)) }
     // A refused text is not a document, and the error has its faults.
     ensures refused { IsSyntax result → (x : Nodes) → IsDocument (chars text.now) x → ⊥ }

@@ -1,14 +1,15 @@
 //! How faults are reported.
 
 ghost use Rattle.kdl_path.specs.Failures.{TextFails};
-ghost use Rattle.cli.specs.Reports.{ReportsFaults, fault_report, faults_report};
+ghost use Rattle.cli.specs.Reports.{ReportsFaults, fault_report, fault_reports, faults_report, reported, rest_line};
 ghost use Rattle.cli_world.specs.Acts.{Does};
-ghost use Rattle.std.specs.Prelude.{◌≡◌, IfOk, List, chars, string_bytes, ℕ};
+ghost use Rattle.std.specs.Prelude.{◌≡◌, ◌++◌, ◌≤◌, IfOk, List, OnOk, chars, string_bytes, ℕ};
 
 use cli_world::effects;
 use cli_world::status::Status;
 use cli_world::tally::Tally;
 use cli_world::world::{World, shown_name};
+use itoa::Buffer;
 use kdl::{KdlDiagnostic, KdlError};
 use kdl_report::{Lines, json, render, short};
 use std::alloc::{AllocError, Global};
@@ -24,15 +25,43 @@ pub enum Form {
     Json,
 }
 
+/// How many faults of a text are reported to people.
+#[derive(Clone, Copy)]
+pub enum Extent {
+    /// At most the first 100.
+    First,
+    /// All.
+    All,
+}
+
 /// How faults are reported.
 #[derive(Clone, Copy)]
 pub struct Style {
     pub form: Form,
+    pub extent: Extent,
     /// Whether colors are used.
     pub color: bool,
 }
 
-/// Returns the report of the faults of a text: for people a picture of each, with an empty line after it.
+/// How many faults of a text are reported to people who don't ask for all.
+const MOST_FAULTS: usize = 100;
+
+/// Returns how many of the faults of a text are reported.
+fn reported(style: Style, count: usize) -> usize
+    ensures count { result ≡ reported style.extent style.form count }
+    ensures bound { result ≤ count }
+{
+    match style.extent {
+        Extent::All => count,
+        Extent::First => match style.form {
+            Form::Human => count.min(MOST_FAULTS),
+            Form::Short | Form::Json => count,
+        },
+    }
+}
+
+/// Returns the report of the faults of a text: for people a picture of each, with an empty line after it, and a line on
+/// how many faults are left out.
 pub fn faults(
     alloc: Global,
     name: &str,
@@ -43,14 +72,43 @@ pub fn faults(
     ensures { IfOk result (λ out. string_bytes out
         ≡ faults_report style name.now text.now error.now.diagnostics.items) }
 {
-    let name = shown_name(name);
+    let faults = error.diagnostics.as_slice();
+    let count = reported(style, faults.len());
+    let mut out = reports(alloc, shown_name(name), text, &faults[..count], style)?;
+    push_rest(&mut out, faults.len() - count)?;
+    Ok(out)
+}
+
+/// Returns the reports of faults, one after another.
+fn reports(
+    alloc: Global,
+    name: &str,
+    text: &str,
+    faults: &[KdlDiagnostic],
+    style: Style,
+) -> Result<String, AllocError>
+    ensures { IfOk result (λ out. string_bytes out ≡ fault_reports style name.now text.now faults.now) }
+{
     let lines = Lines::new(alloc, text)?;
     let mut out = String::new(alloc);
-    for fault in &error.diagnostics {
+    for fault in faults {
         let report = report_of(alloc, name, &lines, fault, style)?;
         out.push_str(&report)?;
     }
     Ok(out)
+}
+
+/// Appends a line on how many faults are left out, if there are some, and an empty line.
+fn push_rest(out: &mut String, count: usize) -> Result<(), AllocError>
+    ensures { OnOk result (string_bytes out.new ≡ string_bytes out.old ++ rest_line count) }
+{
+    if count == 0 {
+        return Ok(());
+    }
+    let mut buffer = Buffer::new();
+    out.push_str("and ")?;
+    out.push_str(buffer.format(count))?;
+    out.push_str(" more\n\n")
 }
 
 /// Returns the report of a fault in a text with these lines.

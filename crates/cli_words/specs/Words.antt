@@ -17,7 +17,7 @@ word_names w = (w.name.now, w.is_hidden, flat_map flag_names w.flags.now)
 abbrev pub AreWords : List Word → Type 0
 AreWords ws = map word_names ws ≡
     (codes "fmt", false, codes "--check -w --write --diff --indent --blank-lines --respell --expand --config ")
-    ∷ (codes "check", false, codes "--format --color ")
+    ∷ (codes "check", false, codes "--format --color --all ")
     ∷ (codes "get", false, codes "--raw --all ")
     ∷ (codes "query", false, codes "--raw --json --count --paths ")
     ∷ (codes "set", false, codes "-w --write --create --query --entry ")

@@ -232,6 +232,12 @@ static WORDS: [Word; 12] = [
                 value: Some(("WHEN", Values::OneOf(&["always", "never", "auto"]))),
                 help: "Whether colors are used [default: auto]",
             },
+            Flag {
+                long: "all",
+                short: None,
+                value: None,
+                help: "Shows all faults of a file, not the first 100 alone",
+            },
         ],
         examples: "Examples:\n  kdl check *.kdl\n  kdl check --format short config.kdl",
         is_hidden: false,

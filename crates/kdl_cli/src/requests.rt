@@ -5,7 +5,7 @@ use cli::ask::{Action, Ask, Path, read_entry, read_path};
 use cli::completions::Shell;
 use cli::files::Mode;
 use cli::query::{Query, Search, View, read_query};
-use cli::report::{Form, Style};
+use cli::report::{Extent, Form, Style};
 use cli::request::{Format, Request};
 use cli::settings::{Given, Indent};
 use std::alloc::AllocError;
@@ -173,7 +173,7 @@ fn ask_request<'m>(
         action,
         name: file_name(matches),
         replace: matches.get_flag("write"),
-        style: style(Form::Human, has_colors(rt, rt.stderr().is_terminal())),
+        style: style(has_colors(rt, rt.stderr().is_terminal())),
     })
 }
 
@@ -191,7 +191,7 @@ fn search_request<'m>(
         search: Search {
             query,
             view: view(matches)?,
-            style: style(Form::Human, has_colors(rt, rt.stderr().is_terminal())),
+            style: style(has_colors(rt, rt.stderr().is_terminal())),
         },
     })
 }
@@ -224,8 +224,13 @@ fn text<'a>(matches: &ArgMatches<'a>, id: &str) -> &'a str {
     matches.get_str(id).unwrap_or("")
 }
 
-fn style(form: Form, color: bool) -> Style {
-    Style { form, color }
+/// How faults are reported by a word that is asked for something else.
+fn style(color: bool) -> Style {
+    Style {
+        form: Form::Human,
+        extent: Extent::First,
+        color,
+    }
 }
 
 /// Whether colors are used where that is not said: on a terminal, if `NO_COLOR` is not set or empty.
@@ -274,7 +279,7 @@ fn format_request<'m>(
             },
         },
         config: matches.get_str("config"),
-        style: style(Form::Human, has_colors(rt, rt.stderr().is_terminal())),
+        style: style(has_colors(rt, rt.stderr().is_terminal())),
     }))
 }
 
@@ -289,8 +294,17 @@ fn check_request<'m>(rt: &HostRuntime, matches: &'m ArgMatches<'_>) -> Request<'
         Some("never") => false,
         _ => has_colors(rt, rt.stdout().is_terminal()),
     };
+    let extent = if matches.get_flag("all") {
+        Extent::All
+    } else {
+        Extent::First
+    };
     Request::Check {
         names: matches.get_strs("FILE").unwrap_or(&[]),
-        style: style(form, color),
+        style: Style {
+            form,
+            extent,
+            color,
+        },
     }
 }
