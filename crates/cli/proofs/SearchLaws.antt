@@ -125,8 +125,8 @@ shown_where_selected derived one s name bytes x p old new t known is selected ra
     let so = file_printed s name bytes old new t known search e in
     let d = so.shows.document in
     let says = one (chars bytes) x (document_says d) is (derived (chars bytes) d so.shows.laid) in
-    selected_some s.view d (query_says s.query.now) p so.shows.paths raw so.shows.selection (subst (λ (y : Nodes). IsSelected y (query_says s.query.now) p) says selected)
-    (sym so.shows.shows ∙ nothing_got so.bytes old.out new.out out same well so.gets)
+    selected_some s.view d (query_says s.query.now) p so.shows.shows.paths raw so.shows.shows.selection (subst (λ (y : Nodes). IsSelected y (query_says s.query.now) p) says selected)
+    (sym so.shows.shows.shows ∙ nothing_got so.bytes old.out new.out out same well so.gets)
 
 -- one file
 last_name : (names : List (List ℕ)) (name last : List ℕ) → names ++ (last ∷ []) ≡ name ∷ [] → (names ≡ []) × (last ≡ name)
@@ -176,6 +176,6 @@ found_where_none_selected derived one s name bytes x old new known is nothing (t
     let d = so.shows.document in
     let says = one (chars bytes) x (document_says d) is (derived (chars bytes) d so.shows.laid) in
     let counts = so.counts in
-    let paths = so.shows.counts in
-    let p = some_path (document_says d) (query_says s.query.now) so.shows.paths so.shows.selection (λ h. some_counted (f.0.count + 0) z.1 (omega (arith, h, counts, paths))) in
+    let paths = so.shows.shows.counts in
+    let p = some_path (document_says d) (query_says s.query.now) so.shows.shows.paths so.shows.shows.selection (λ h. some_counted (f.0.count + 0) z.1 (omega (arith, h, counts, paths))) in
     nothing p.0 (subst (λ (y : Nodes). IsSelected y (query_says s.query.now) p.0) (sym says) p.1)

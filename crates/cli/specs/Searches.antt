@@ -1,18 +1,17 @@
 -- What is done with files in which a query selects nodes.
-use Rattle.std.specs.Prelude.{◌≡◌, ◌⊎◌, ◌==◌, ℕ, max, Bool, List, None, Ok, Err, Result, Some, String, chars, codes, encode_utf8_all, if◌then◌else◌, length, option_map, string_bytes}
+use Rattle.std.specs.Prelude.{◌≡◌, ◌⊎◌, ◌==◌, ℕ, max, Bool, List, None, Ok, Err, Result, Some, String, chars, codes, encode_utf8_all, if◌then◌else◌, option_map, string_bytes}
 use Rattle.std.specs.declared.alloc.Global.{Global}
-use Rattle.kdl.specs.Words.{InText, LaidDocument, document_says, document_tree}
+use Rattle.kdl.specs.Words.{InText, LaidDocument, document_tree}
 use Rattle.kdl.specs.declared.document.KdlDocument.{KdlDocument}
 use Rattle.kdl_query.specs.Data as data'
 use Rattle.kdl_query.specs.QueryText.{IsQuery}
-use Rattle.kdl_query.specs.Selects.{IsSelection, Path}
 use Rattle.kdl_query.specs.Tree.{query_says}
 use Rattle.kdl_query.specs.declared.error.QueryError.{QueryError}
 use Rattle.kdl_query.specs.declared.tree.Query.{Query}
 use Rattle.kdl_report.specs.Picture.{picture}
 use Rattle.kdl_text.specs.declared.error.KdlDiagnostic.{KdlDiagnostic}
 use Rattle.kdl_text.specs.declared.span.Severity.TheVariants.{Error}
-use Rattle.cli_shown.specs.Nodes.{shown}
+use Rattle.cli_shown.specs.Nodes.{ShowsSelected}
 use Rattle.cli_world.specs.Acts.{Acts, Each, Effect}
 use Rattle.cli_world.specs.Acts.Effect.{prints}
 use Rattle.cli_world.specs.Seen.{Seen}
@@ -47,10 +46,7 @@ IsReadQuery color text (Err out) = ((x : data'.Query) → IsQuery (chars text) x
 pub record Shows (s : Search) (text out : List ℕ) (count : ℕ) : Type 0 where
   pub document : KdlDocument
   pub laid : LaidDocument (document_tree document) (chars text)
-  pub paths : List Path
-  pub selection : IsSelection (document_says document) (query_says s.query.now) paths
-  pub counts : count ≡ length paths
-  pub shows : out ≡ shown s.view document paths
+  pub shows : ShowsSelected s.view (query_says s.query.now) document out count
 
 -- what is shown of the selected nodes is printed, with their number
 abbrev pub PrintsNodes : Search → List ℕ → Effect → Type 0

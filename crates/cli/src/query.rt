@@ -16,7 +16,7 @@ use cli_world::tally::Tally;
 use cli_world::world::World;
 use kdl::{KdlDiagnostic, KdlDocument, ParseFailure, Severity};
 pub use kdl_query::Query;
-use kdl_query::{QueryError, QueryFailure, query_paths};
+use kdl_query::{QueryError, QueryFailure};
 use kdl_report::{Lines, render_without_hint};
 use std::alloc::{AllocError, Global};
 use std::rc::RcStr;
@@ -153,8 +153,7 @@ fn selected(
     ensures told { TellsOnSyntax text.now result }
 {
     let document = KdlDocument::parse(alloc, text)?;
-    let paths = query_paths(alloc, &document, search.query)?;
-    let out = shown(alloc, &document, &paths, search.view)?;
+    let (out, count) = shown(alloc, &document, search.query, search.view)?;
     disposal.dispose(document);
-    Ok((out, paths.len()))
+    Ok((out, count))
 }

@@ -1,21 +1,23 @@
 //! What is shown of the nodes that a query selects.
 
-ghost use Rattle.cli_shown.specs.Nodes.{shown};
-ghost use Rattle.std.specs.Prelude.{◌≡◌, IfOk, map, string_bytes};
+ghost use Rattle.cli_shown.specs.Nodes.{ShowsSelected};
+ghost use Rattle.kdl_query.specs.Tree.{query_says};
+ghost use Rattle.std.specs.Prelude.{IfOk, string_bytes};
 
 use cli_shown::View;
 use kdl::KdlDocument;
+use kdl_query::Query;
 use std::alloc::{AllocError, Global};
 
-/// Returns what a view shows of the nodes at these paths.
+/// Returns what a view shows of the nodes that the query selects, and how many they are.
 pub fn shown(
     alloc: Global,
     document: &KdlDocument,
-    paths: &[Vec<usize>],
+    query: &Query,
     view: View,
-) -> Result<String, AllocError>
-    ensures { IfOk result (λ s. string_bytes s
-        ≡ shown view document.now (map (λ p. p.items) paths.now)) }
+) -> Result<(String, usize), AllocError>
+    ensures { IfOk result (λ r. ShowsSelected view (query_says query.now) document.now
+        (string_bytes r.0) r.1) }
 {
-    cli_shown::shown(alloc, document, paths, view)
+    cli_shown::shown(alloc, document, query, view)
 }

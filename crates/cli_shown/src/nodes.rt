@@ -1,13 +1,18 @@
 //! The nodes at paths of a document, as a view shows them.
 
-ghost use Rattle.cli_shown.specs.Nodes.{ended, ends_line, node_text, shown, shown_at};
+ghost use Rattle.cli_shown.specs.Nodes.{ShowsSelected, ended, ends_line, node_text, part_shown, shown, shown_at};
 ghost use Rattle.cli_shown.specs.Internal.Trail.{IsTrail};
 ghost use Rattle.cli_shown.specs.Values.{line_of};
+ghost use Rattle.cli_shown.specs.declared.nodes.View.TheVariants.{Paths};
 ghost use Rattle.kdl.specs.Words.{document_says, node_prints, node_says, node_tree, said_argument, said_nodes};
 ghost use Rattle.kdl_json.specs.Form.{node_json_text};
+ghost use Rattle.kdl.specs.declared.document.KdlDocument.{KdlDocument};
+ghost use Rattle.kdl_query.specs.Held.{held_at};
+ghost use Rattle.kdl_query.specs.Selects.{Path};
+ghost use Rattle.kdl_query.specs.Tree.{query_says};
 ghost use Rattle.std.specs.List.{flat_map};
 ghost use Rattle.std.specs.Option.{option_map_or};
-ghost use Rattle.std.specs.Prelude.{◌≡◌, ◌∷◌, ◌++◌, [], IfOk, OnOk, decimal, encode_utf8_all, map, string_bytes, true};
+ghost use Rattle.std.specs.Prelude.{◌≡◌, ◌∷◌, ◌++◌, [], IfOk, List, OnOk, Some, decimal, encode_utf8_all, map, string_bytes, true};
 
 use crate::names::push_path;
 use crate::trail::Trail;
@@ -15,7 +20,7 @@ use crate::values::push_value;
 use itoa::Buffer;
 use kdl::{KdlDocument, KdlNode, NodeKey};
 use kdl_json::node_to_json;
-use kdl_query::node_at;
+use kdl_query::{Query, node_at, query_all, query_paths};
 use std::alloc::{AllocError, Global};
 
 /// What is shown of nodes.
@@ -33,19 +38,61 @@ pub enum View {
     Paths,
 }
 
-/// Returns what a view shows of the nodes at these paths, in order. Returns an error if an allocation fails.
+/// Returns what a view shows of the nodes that the query selects, in the order of the document, and how many they are.
+/// Returns an error if an allocation fails.
 pub fn shown(
     alloc: Global,
     document: &KdlDocument,
-    paths: &[Vec<usize>],
+    query: &Query,
     view: View,
-) -> Result<String, AllocError>
-    ensures { IfOk result (λ s. string_bytes s
-        ≡ shown view document.now (map (λ p. p.items) paths.now)) }
+) -> Result<(String, usize), AllocError>
+    ensures { IfOk result (λ r. ShowsSelected view (query_says query.now) document.now
+        (string_bytes r.0) r.1) }
 {
     match view {
-        View::Count => count_line(alloc, paths.len()),
-        _ => lines(alloc, document, paths, view),
+        View::Paths => shown_paths(alloc, document, query),
+        _ => shown_nodes(alloc, document, query, view),
+    }
+}
+
+/// Returns the PATHs of the nodes that the query selects, and how many they are.
+fn shown_paths(
+    alloc: Global,
+    document: &KdlDocument,
+    query: &Query,
+) -> Result<(String, usize), AllocError>
+    ensures { IfOk result (λ r. ShowsSelected Paths (query_says query.now) document.now
+        (string_bytes r.0) r.1) }
+{
+    let paths = query_paths(alloc, document, query)?;
+    Ok((path_lines(alloc, document, &paths)?, paths.len()))
+}
+
+/// Returns what a view other than `View::Paths` shows of the nodes that the query selects, and how many they are.
+fn shown_nodes(
+    alloc: Global,
+    document: &KdlDocument,
+    query: &Query,
+    view: View,
+) -> Result<(String, usize), AllocError>
+    requires { view ≡ Paths → ⊥ }
+    ensures { IfOk result (λ r. ShowsSelected view (query_says query.now) document.now
+        (string_bytes r.0) r.1) }
+{
+    let nodes = query_all(alloc, document, query)?;
+    Ok((shown_of(alloc, &nodes, view)?, nodes.len()))
+}
+
+/// Returns what a view other than `View::Paths` shows of these nodes.
+fn shown_of(alloc: Global, nodes: &[&KdlNode], view: View) -> Result<String, AllocError>
+    requires { view ≡ Paths → ⊥ }
+    ensures { IfOk result (λ s. (d : KdlDocument) (ps : List Path)
+        → map (λ p. held_at p d) ps ≡ map Some (map (λ n. n.now) nodes.now)
+        → string_bytes s ≡ shown view d ps) }
+{
+    match view {
+        View::Count => count_line(alloc, nodes.len()),
+        _ => lines(alloc, nodes, view),
     }
 }
 
@@ -59,47 +106,62 @@ fn count_line(alloc: Global, count: usize) -> Result<String, AllocError>
     Ok(line)
 }
 
-/// Returns what a view shows of each node.
-fn lines(
+/// Returns the lines with the PATHs of the nodes at these paths.
+fn path_lines(
     alloc: Global,
     document: &KdlDocument,
     paths: &[Vec<usize>],
-    view: View,
 ) -> Result<String, AllocError>
     ensures { IfOk result (λ s. string_bytes s
-        ≡ flat_map (shown_at view document.now) (map (λ p. p.items) paths.now)) }
+        ≡ flat_map (shown_at Paths document.now) (map (λ p. p.items) paths.now)) }
 {
     let mut out = String::new(alloc);
     let mut trail = Trail::new(alloc);
     for path in paths {
-        push_lines(alloc, &mut out, document, &mut trail, path, view)?;
+        push_line(alloc, &mut out, document, &mut trail, path)?;
     }
     Ok(out)
 }
 
-/// Appends what a view shows of the node at a path, if there is one.
-fn push_lines<'a>(
+/// Appends a line with the PATH of the node at a path, if there is one.
+fn push_line<'a>(
     alloc: Global,
     out: &mut String,
     document: &KdlDocument,
     trail: &mut Trail<'a>,
     path: &'a [usize],
-    view: View,
 ) -> Result<(), AllocError>
     requires { IsTrail trail.old (said_nodes (document_says document.now)) }
     ensures shown { OnOk result (string_bytes out.new
-        ≡ string_bytes out.old ++ shown_at view document.now path.entry.now) }
+        ≡ string_bytes out.old ++ shown_at Paths document.now path.entry.now) }
     ensures trail { OnOk result (IsTrail trail.new (said_nodes (document_says document.now))) }
 {
-    let Some(node) = node_at(document, path) else {
-        return Ok(());
-    };
+    match node_at(document, path) {
+        Some(_) => push_path(alloc, out, document, trail, path),
+        None => Ok(()),
+    }
+}
+
+/// Returns what a view shows of each of the nodes, without PATHs.
+fn lines(alloc: Global, nodes: &[&KdlNode], view: View) -> Result<String, AllocError>
+    ensures { IfOk result (λ s. string_bytes s ≡ flat_map (part_shown view) (map (λ n. n.now) nodes.now)) }
+{
+    let mut out = String::new(alloc);
+    for node in nodes {
+        push_node(alloc, &mut out, *node, view)?;
+    }
+    Ok(out)
+}
+
+/// Appends what a view shows of a node, without its PATH.
+fn push_node(alloc: Global, out: &mut String, node: &KdlNode, view: View) -> Result<(), AllocError>
+    ensures { OnOk result (string_bytes out.new ≡ string_bytes out.old ++ part_shown view node.now) }
+{
     match view {
         View::Text => push_text(alloc, out, node),
         View::Raw => push_argument(alloc, out, node),
         View::Json => push_json(alloc, out, node),
-        View::Count => Ok(()),
-        View::Paths => push_path(alloc, out, document, trail, path),
+        View::Count | View::Paths => Ok(()),
     }
 }
 

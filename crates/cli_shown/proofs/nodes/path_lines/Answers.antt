@@ -1,5 +1,5 @@
 use Rattle.kdl.specs.Words.{document_says, said_nodes}
-use Rattle.cli_shown.proofs.nodes.lines.Goals as goal
+use Rattle.cli_shown.proofs.nodes.path_lines.Goals as goal
 
 pub loop-path-init : goal.loop-path-init
 loop-path-init c = record {
