@@ -1,11 +1,12 @@
 //! The text of a document after messages about it.
 
+ghost use Rattle.lsp.specs.Turns.{Takes, sent_of};
 ghost use Rattle.lsp_documents.specs.Notes.{Agrees, Note, Texts};
 ghost use Rattle.lsp_tests.specs.Told.{TellAll, all_after};
 ghost use Rattle.std.specs.Prelude.{◌≡◌, List, map};
 
-use lsp::{Phase, State, step};
-use std::alloc::Global;
+use lsp::{Phase, State};
+use std::alloc::{AllocError, Global};
 use std::io;
 
 /// A client opens a document and changes it twice.
@@ -14,6 +15,13 @@ static MESSAGES: [&str; 3] = [
     r#"{"jsonrpc":"2.0","method":"textDocument/didChange","params":{"textDocument":{"uri":"file:///c.kdl","version":2},"contentChanges":[{"range":{"start":{"line":0,"character":4},"end":{"line":0,"character":4}},"text":"b"}]}}"#,
     r#"{"jsonrpc":"2.0","method":"textDocument/didChange","params":{"textDocument":{"uri":"file:///c.kdl","version":3},"contentChanges":[{"range":{"start":{"line":0,"character":0},"end":{"line":0,"character":1}},"text":"c"}]}}"#,
 ];
+
+/// `lsp::step`.
+fn step(alloc: Global, state: &mut State, message: &str) -> Result<Vec<String>, AllocError>
+    ensures { Takes state.old message.now (sent_of result) state.new }
+{
+    lsp::step(alloc, state, message)
+}
 
 /// Takes messages, one after another.
 ///

@@ -128,7 +128,7 @@ impl<'a> Line<'a> {
     pub fn kind(&self) -> Kind {
         if self.text.is_none() {
             return match self.label {
-                "keep spelling" | "keep one line" => Kind::Layout,
+                "keep spelling" | "keep inner comments" | "keep one line" => Kind::Layout,
                 _ => Kind::Wanted,
             };
         }
