@@ -3,6 +3,7 @@ use Rattle.kdl_laws.proofs.Common.{float_decides, value_decides, value_ties, ent
 use Rattle.kdl_value.proofs.Comparing.OrderOnTrees.{float_ordered, float_ties, value_ordered, value_total}
 use Rattle.kdl_value.proofs.Floating.DecimalTexts.{decimal_float}
 use Rattle.kdl_value.proofs.Spelling.StringReadsBack.{spelled_alone, spelled_before}
+use Rattle.kdl_layout.proofs.Keeping.InnerItems.{inside_has}
 use Rattle.kdl_layout.proofs.Listing.PlaceTexts.{after_block_items, before_block_items, before_entry_items}
 use Rattle.kdl_laws.proofs.Equality.{document_decides, node_decides}
 use Rattle.kdl_laws.proofs.ErrorClones.{error_copy, failure_copy}
@@ -26,4 +27,4 @@ pub ruleset nodes = (node_decides, document_decides)
 pub ruleset errors = (span_decides, severity_decides, float_failure_decides, diagnostic_decides, error_decides, failure_decides, error_copy, failure_copy)
 
 -- for src/items.rt
-pub ruleset items = (gap_items, before_block_items, after_block_items, before_entry_items, document_items, terminator_items, in_document, in_node, laid_out, node_laid_out)
+pub ruleset items = (gap_items, before_block_items, after_block_items, before_entry_items, document_items, terminator_items, inside_has, in_document, in_node, laid_out, node_laid_out)

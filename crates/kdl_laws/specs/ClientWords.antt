@@ -12,11 +12,12 @@ pub use Rattle.kdl_value.specs.Floats.{DecimalsAreFloats}
 pub use Rattle.kdl_entry.specs.Formless.{FormlessReadsBack}
 -- Items: the lists of a place, of a node and of a document.
 pub use Rattle.kdl_layout.specs.Items.{GapItems, Item, Place, PlaceItems, before_block, before_entry, after_block}
-pub use Rattle.kdl_layout.specs.Comments.{DocumentItems, EndItems, NodeItems}
+pub use Rattle.kdl_layout.specs.Comments.{DocumentItems, EndItems, InnerItems, NodeItems}
 -- Entries that keep their form.
 pub use Rattle.kdl_laws.specs.KeptForm.{EmptyFormFails, UnflaggedKeepReading}
 -- The texts that may be in a place.
-pub use Rattle.kdl_text.specs.Trivia.{LineComment}
+pub use Rattle.kdl_text.specs.Chars.{Star}
+pub use Rattle.kdl_text.specs.Trivia.{LineComment, NodeSpace}
 pub use Rattle.kdl_entry.specs.Places.{EntryLeading}
 pub use Rattle.kdl_grammar.specs.Grammar.{Gap}
 pub use Rattle.kdl_grammar.specs.Places.{AfterChildren, BeforeChildren}

@@ -3,7 +3,7 @@
 #![tactic(auto, using(crate::proofs::Rules::items))]
 
 ghost use Rattle.kdl_entry.specs.Places.{EntryLeading};
-ghost use Rattle.kdl_layout.specs.Comments.{DocumentItems, EndItems, NodeItems};
+ghost use Rattle.kdl_layout.specs.Comments.{DocumentItems, EndItems, InnerItems, NodeItems};
 ghost use Rattle.kdl_layout.specs.Config.{Settings};
 ghost use Rattle.kdl_layout.specs.Formatted.{DocumentKeepsNone, NodeKeepsNone};
 ghost use Rattle.kdl_layout.specs.Kept.{without_bom};
@@ -14,13 +14,14 @@ ghost use Rattle.kdl_grammar.specs.Tree.{Document, Node};
 ghost use Rattle.kdl_layout.specs.Items.{GapItems, Item, Place, PlaceItems, before_block, before_entry, after_block};
 ghost use Rattle.kdl_layout.specs.Written.{lines, on_line, tail};
 ghost use Rattle.kdl_laws.specs.Leading.{DocumentLeading};
-ghost use Rattle.kdl_text.specs.Chars.{Text, is_space};
-ghost use Rattle.kdl_text.specs.Trivia.{LineComment};
+ghost use Rattle.kdl_text.specs.Chars.{Star, Text, is_space};
+ghost use Rattle.kdl_text.specs.Trivia.{LineComment, NodeSpace};
 ghost use Rattle.std.specs.List.{list_all};
 ghost use Rattle.std.specs.Prelude.{◌≡◌, ◌≢◌, ◌↔◌, ◌++◌, ◌∷◌, ℕ, [], Bool, List, false, map, true};
 
 /// A text has a list of items exactly if it may be in its place: as a gap, before or after a block, before an entry, or
-/// before the nodes of a document. A terminator has an item exactly if it is a line comment.
+/// before the nodes of a document. A terminator has an item exactly if it is a line comment. A text inside an entry or a
+/// type has a list if it is node-spaces before what follows there.
 pub fn place_has_items()
     ensures gap { (s : Text) → Gap true s [] ↔ ((is : List Item) × GapItems s is) }
     ensures before_block { (s : Text) → BeforeChildren s []
@@ -33,6 +34,8 @@ pub fn place_has_items()
         ↔ ((is : List Item) × GapItems (without_bom s) is) }
     ensures terminator { (t : Text) (is : List Item) → EndItems t is
         → (is ≢ []) ↔ LineComment t [] }
+    ensures inside { (t r : Text) → r ≢ [] → Star NodeSpace (t ++ r) r
+        → (is : List Item) × InnerItems t is }
 {}
 
 /// Each document and each node has a list of items, which is the premise of `CommentsStay` and `AllCommentsStay`, and of

@@ -72,7 +72,7 @@ mutual
     of_document : {f : Option DocumentFormat} {span : SourceSpan} {ns : Nodes} {a b c : List Item} → ItemsIn (GapItems (without_bom (or_empty_document f).leading)) a → NodesItems inner ns b
         → ItemsIn (GapItems (or_empty_document f).trailing) c → DocumentItems inner (document f span ns) (a ++ b ++ c)
 
--- each document that is laid in the text has the items of this document, each as it is on a line
+-- each document that is laid in the text has the items of this document, each as it is on a line; with `inner` all items
 -- (the laws `has_list`, `laid_out_has_list` and `one_list` of kdl_laws: there is exactly one such list)
 abbrev pub ItemsStay : Bool → Document → Text → Type 0
 ItemsStay inner d t = (e : Document) (is : List Item) → DocumentItems inner d is → LaidDocument e t → DocumentItems inner e (map on_line is)
@@ -81,14 +81,14 @@ ItemsStay inner d t = (e : Document) (is : List Item) → DocumentItems inner d 
 abbrev pub NodeItemsStay : Bool → Node → Text → Type 0
 NodeItemsStay inner n t = (e : Document) (is : List Item) → NodeItems inner n is → LaidDocument e t → DocumentItems inner e (map on_line is)
 
--- of the items that are not inside an entry or a type
+-- each document that is laid in the text has the items of this document that are not inside an entry or a type, each as it is on a line
 abbrev pub CommentsStay : Document → Text → Type 0
 CommentsStay d t = ItemsStay false d t
 
 abbrev pub NodeCommentsStay : Node → Text → Type 0
 NodeCommentsStay n t = NodeItemsStay false n t
 
--- of all items
+-- each document that is laid in the text has all items of this document, each as it is on a line
 abbrev pub AllCommentsStay : Document → Text → Type 0
 AllCommentsStay d t = ItemsStay true d t
 

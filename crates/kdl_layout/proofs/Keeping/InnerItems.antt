@@ -1,10 +1,11 @@
 -- Comments inside entries and types: one list at most, and what is kept inside holds the comments that it held.
-use Rattle.kdl_layout.proofs.Common.{◌≡◌, indentation, line_of, ℕ, Bool, true, false, List, [], ◌∷◌, ◌++◌, map, refl, sym, ap, subst, ◌∙◌, Option, Some, None, option_map, append-nil, map-append, ◌&&◌, not, is_some, Text, Identifier, EntryFormat, Entry, NodeFormat, Head, Item, before_entry, PlaceItems, on_line, line_text, AreNodeSpaces, Keeping, Settings, keeps_texts, or_empty, only_spaces, ItemsIn, KeptPlace, KeptPlaceIf, TypeTexts, KeptTypeTexts, KeptTypeTextsIf, KeptForm, entry_type_texts, node_type_texts, with_type_texts, IsTypedFormat, HasSpellings, HasSpellingsIf, HasSpellingsUnless, IsRespelledIf, IsRespelledEntry, AreRespelledEntries, AreFormattedEntries, IsFormattedEntry, with_keep_if, is_kept_format, EntriesKeepNone, autoformatted, following, Before, plain_format}
-use Rattle.kdl_layout.specs.Comments.{InnerIn, KeyItems, TypeItems, InsideItems, EntryItems}
+use Rattle.kdl_layout.proofs.Common.{◌≡◌, ◌≢◌, Star, NodeSpace, indentation, line_of, ℕ, Bool, true, false, List, [], ◌∷◌, ◌++◌, map, refl, sym, ap, subst, ◌∙◌, Option, Some, None, option_map, append-nil, map-append, ◌&&◌, not, is_some, Text, Identifier, EntryFormat, Entry, NodeFormat, Head, Item, before_entry, PlaceItems, on_line, line_text, AreNodeSpaces, Keeping, Settings, keeps_texts, or_empty, only_spaces, ItemsIn, KeptPlace, KeptPlaceIf, TypeTexts, KeptTypeTexts, KeptTypeTextsIf, KeptForm, entry_type_texts, node_type_texts, with_type_texts, IsTypedFormat, HasSpellings, HasSpellingsIf, HasSpellingsUnless, IsRespelledIf, IsRespelledEntry, AreRespelledEntries, AreFormattedEntries, IsFormattedEntry, with_keep_if, is_kept_format, EntriesKeepNone, autoformatted, following, Before, plain_format}
+use Rattle.kdl_layout.specs.Comments.{InnerIn, InnerItems, KeyItems, TypeItems, InsideItems, EntryItems}
 use Rattle.kdl_layout.proofs.NodeSpaces.{empty_spaces}
 use Rattle.kdl_layout.proofs.Listing.ItemsUnique.{items_in_det, place_in_det, place_items_det}
 use Rattle.kdl_layout.proofs.Keeping.KeptPlaces.{place_stays}
 use Rattle.kdl_layout.proofs.Keeping.KeptReads.{spaces_in}
+use Rattle.kdl_layout.proofs.Rewriting.BeforeNewlines.{spaces_before_each}
 use Rattle.kdl_layout.proofs.Rewriting.LinesAgain.{line_text_again}
 use Rattle.kdl_layout.proofs.Respelling.Kept.{OnlySpaces, no_texts, line_spaces, spaces_place, each_place}
 use Rattle.kdl_layout.proofs.Respelling.Written.{Inside, nothing_inside, format_inside, plain_inside, format_is, unflagged_same, IsTypedLine}
@@ -87,6 +88,10 @@ type_nothing inner (Some o) x (a, b, c, i, j, k, e) h = e ∙ none_of (none_of (
 -- what is kept of a text holds its comments
 there_are : {t : Text} → AreNodeSpaces t → (is : List Item) × PlaceItems (before_entry true) t is
 there_are {t} a = let (is, d) = spaces_place (a []) refl in (is, subst (λ (z : Text). PlaceItems (before_entry true) z is) (append-nil t) d)
+
+-- a text that is inside an entry or a type, before a rest, has a list
+pub inside_has : (t r : Text) → r ≢ [] → Star NodeSpace (t ++ r) r → (is : List Item) × InnerItems t is
+inside_has t r h ss = let a = spaces_before_each t r h ss in let (is, d) = there_are a in (is, (a, d))
 
 inner_kept : (inner : Bool) (is : List Item) {t r : Text} → KeptPlace t r → InnerIn inner t is → InnerIn inner r (map on_line is)
 inner_kept false is k i = ap (map on_line) i

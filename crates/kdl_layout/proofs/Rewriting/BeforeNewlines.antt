@@ -1,5 +1,5 @@
--- Node-spaces and nodes that come before a newline come before LF too, where CR at their end is LF.
-use Rattle.kdl_layout.proofs.Common.{◌≡◌, ℕ, Bool, true, false, ◌&&◌, ◌==◌, List, [], ◌∷◌, ◌++◌, refl, sym, ap, subst, ◌∙◌, append_assoc, if◌then◌else◌, Text, starts, Newline, crlf, Star, more, Plus, plus, BlockComment, block, Line, Ws, EscEnd, escline, NodeSpace, ValueEnd, space_ends, end_spaces, end_slashdash, end_type, move_spaces, move_slashdash, move_string, move_entry, punctuation_end, spaces_end, any_run, Put, stands, also, joined, same, IsNode, named, AfterName, kept_entry, dropped_entry, Blocks, dropped_block, no_block, AfterBlock, dropped_later, no_more, IsBlock, braces, move_nodes, line_text, is_newline_char}
+-- Node-spaces that come before a rest come before each rest, and nodes before a newline before LF, where CR at their end is LF.
+use Rattle.kdl_layout.proofs.Common.{◌≡◌, ◌≢◌, ℕ, Bool, true, false, ◌&&◌, ◌==◌, List, [], ◌∷◌, ◌++◌, refl, sym, ap, subst, ◌∙◌, append_assoc, if◌then◌else◌, Text, begins, starts, Newline, crlf, Star, more, Plus, plus, BlockComment, block, Line, Ws, EscEnd, escline, NodeSpace, ValueEnd, space_ends, end_spaces, end_slashdash, end_type, move_spaces, move_slashdash, move_string, move_entry, punctuation_end, spaces_end, any_run, Put, stands, also, joined, same, IsNode, named, AfterName, kept_entry, dropped_entry, Blocks, dropped_block, no_block, AfterBlock, dropped_later, no_more, IsBlock, braces, move_nodes, line_text, is_newline_char, AreNodeSpaces}
 use Rattle.std.proofs.lemmas.List.{append_cancel_right}
 use Rattle.kdl_text.specs.Chars.{one, none, space as a_space}
 use Rattle.kdl_text.specs.Internal.Here.{first}
@@ -41,31 +41,38 @@ closed_braces (braces ns) =
     let a = move_nodes ns in
     record { at = also 123 (joined a.at (also 125 stands)); full = λ u. refl; there = λ u. braces (a.there (125 ∷ u) refl) }
 
--- what is in s before r, and the same before LF
-pub record OnLine (R : Text → Text → Type 0) (s r : Text) : Type 0 where
+-- what is in s before r, and the same before other rests
+pub record OnLine (rest : Text → Text) (R : Text → Text → Type 0) (s r : Text) : Type 0 where
   pub piece : Text
   pub line : Text
   pub text : s ≡ piece ++ r
   pub lined : (p : Text) → line_text (p ++ piece) ≡ p ++ line
-  pub there : (u : Text) → R (line ++ (10 ∷ u)) (10 ∷ u)
+  pub there : (u : Text) → R (line ++ rest u) (rest u)
+
+-- before each rest, and before LF
+abbrev pub any : Text → Text
+any u = u
+
+abbrev pub feed : Text → Text
+feed u = 10 ∷ u
 
 -- the text begins as before
-abbrev pub Begun : {R : Text → Text → Type 0} {s r : Text} → OnLine R s r → Type 0
-Begun {s = s} k = (u : Text) → first (k.line ++ (10 ∷ u)) ≡ first s
+abbrev pub Begun : {rest : Text → Text} {R : Text → Text → Type 0} {s r : Text} → OnLine rest R s r → Type 0
+Begun {rest = rest} {s = s} k = (u : Text) → first (k.line ++ rest u) ≡ first s
 
-pub put_line : {s t : Text} (p : Put s t) (line u : Text) → p.put (line ++ (10 ∷ u)) ≡ (p.piece ++ line) ++ (10 ∷ u)
-put_line p line u = p.text (line ++ (10 ∷ u)) ∙ sym (append_assoc p.piece line (10 ∷ u))
+pub put_line : {s t : Text} (p : Put s t) (line u : Text) → p.put (line ++ u) ≡ (p.piece ++ line) ++ u
+put_line p line u = p.text (line ++ u) ∙ sym (append_assoc p.piece line u)
 
 pub put_text : {s t : Text} (p : Put s t) (q r : Text) → t ≡ q ++ r → s ≡ (p.piece ++ q) ++ r
 put_text {t = t} p q r e = p.here ∙ p.text t ∙ ap (λ (z : Text). p.piece ++ z) e ∙ sym (append_assoc p.piece q r)
 
-abbrev following : {R Q : Text → Text → Type 0} {s t r : Text} (p : Put s t) (k : OnLine R t r) → ((u : Text) → Q (p.put (k.line ++ (10 ∷ u))) (10 ∷ u)) → OnLine Q s r
-following {Q = Q} {r = r} p k f = record {
+abbrev following : {rest : Text → Text} {R Q : Text → Text → Type 0} {s t r : Text} (p : Put s t) (k : OnLine any R t r) → ((u : Text) → Q (p.put (k.line ++ rest u)) (rest u)) → OnLine rest Q s r
+following {rest = rest} {Q = Q} {r = r} p k f = record {
   piece = p.piece ++ k.piece;
   line = p.piece ++ k.line;
   text = put_text p k.piece r k.text;
   lined = lined_after p.piece k.lined;
-  there = λ u. subst (λ (z : Text). Q z (10 ∷ u)) (put_line p k.line u) (f u);
+  there = λ u. subst (λ (z : Text). Q z (rest u)) (put_line p k.line (rest u)) (f u);
 }
 
 -- newlines
@@ -94,7 +101,7 @@ line_char_other c = go (c == 13) refl
     go true e = refl
     go false e = e
 
-newline_line : {s r : Text} → Newline s r → OnLine Newline s r
+newline_line : {s r : Text} → Newline s r → OnLine any Newline s r
 newline_line crlf = record { piece = 13 ∷ 10 ∷ []; line = 13 ∷ 10 ∷ []; text = refl; lined = λ p. line_after p 13 (10 ∷ []); there = λ u. crlf }
 newline_line (one {c = c} x y) =
     record {
@@ -102,22 +109,22 @@ newline_line (one {c = c} x y) =
       line = (if c == 13 then 10 else c) ∷ [];
       text = refl;
       lined = λ p. line_after p c [];
-      there = λ u. one (line_char_newline c x) (ap (λ (b : Bool). b && true) (line_char_other c));
+      there = λ u. one (line_char_newline c x) (ap (λ (b : Bool). b && begins 10 u) (line_char_other c));
     }
 
-line_line : {s r : Text} → Line s r → starts is_newline_char r ≡ true → OnLine Line s r
-line_line Line.ends h = cc
+line_line : {s r : Text} → Line s r → r ≢ [] → OnLine any Line s r
+line_line Line.ends h = absurd (h refl)
 line_line (Line.newline n) h = following stands (newline_line n) (λ u. Line.newline ((newline_line n).there u))
 line_line (Line.other {c = c} x l) h = let k = line_line l h in following (also c stands) k (λ u. Line.other x (k.there u))
 
 -- node-spaces
-esc_line : {s r : Text} → EscEnd s r → starts is_newline_char r ≡ true → OnLine EscEnd s r
+esc_line : {s r : Text} → EscEnd s r → r ≢ [] → OnLine any EscEnd s r
 esc_line (EscEnd.comment (a_line l)) h = let k = line_line l h in following (also 47 (also 47 stands)) k (λ u. EscEnd.comment (a_line (k.there u)))
 esc_line (EscEnd.newline n) h = let k = newline_line n in following stands k (λ u. EscEnd.newline (k.there u))
-esc_line EscEnd.ends h = cc
+esc_line EscEnd.ends h = absurd (h refl)
 
 record SpacesLine (R : Text → Text → Type 0) (s r : Text) : Type 0 where
-  on : OnLine R s r
+  on : OnLine any R s r
   begun : Begun on
 
 closed_line : {R : Text → Text → Type 0} {s r : Text} → Anywhere R s r → Last s r → SpacesLine R s r
@@ -127,30 +134,44 @@ closed_line {R = R} {r = r} c l = record {
     line = c.at.piece;
     text = c.at.here ∙ c.at.text r;
     lined = piece_kept c.at.piece (c.at.here ∙ c.at.text r) l;
-    there = λ u. subst (λ (z : Text). R z (10 ∷ u)) (c.at.text (10 ∷ u)) (c.there (10 ∷ u));
+    there = λ u. subst (λ (z : Text). R z u) (c.at.text u) (c.there u);
   };
-  begun = λ u. ap first (sym (c.at.text (10 ∷ u))) ∙ c.full (10 ∷ u);
+  begun = λ u. ap first (sym (c.at.text u)) ∙ c.full u;
 }
 
-space_line : {s r : Text} → NodeSpace s r → starts is_newline_char r ≡ true → SpacesLine NodeSpace s r
+space_line : {s r : Text} → NodeSpace s r → r ≢ [] → SpacesLine NodeSpace s r
 space_line (NodeSpace.ws w) h = let m = closed_ws w in closed_line (record { at = m.at; full = m.full; there = λ u. NodeSpace.ws (m.there u) }) (ws_last w)
 space_line (NodeSpace.escline (escline ss f)) h =
     let a = any_run ss in let k = esc_line f h in
-    record { on = following (also 92 a.at) k (λ u. NodeSpace.escline (escline (a.there (k.line ++ (10 ∷ u))) (k.there u))); begun = λ u. refl }
+    record { on = following (also 92 a.at) k (λ u. NodeSpace.escline (escline (a.there (k.line ++ u)) (k.there u))); begun = λ u. refl }
 
 add_space : {s t r : Text} → NodeSpace s t → Plus NodeSpace t r → Plus NodeSpace s r
 add_space n (plus m ms) = plus n (more m ms)
 
-spaces_line : {s t r : Text} → NodeSpace s t → Star NodeSpace t r → starts is_newline_char r ≡ true → SpacesLine (Plus NodeSpace) s r
+spaces_line : {s t r : Text} → NodeSpace s t → Star NodeSpace t r → r ≢ [] → SpacesLine (Plus NodeSpace) s r
 spaces_line n none h =
     let k = space_line n h in
     record { on = record { piece = k.on.piece; line = k.on.line; text = k.on.text; lined = k.on.lined; there = λ u. plus (k.on.there u) none }; begun = k.begun }
 spaces_line n (more m ms) h =
     let a = move_space n in let k = spaces_line m ms h in
     record {
-      on = following a.at k.on (λ u. add_space (a.there (k.on.line ++ (10 ∷ u)) (k.begun u)) (k.on.there u));
-      begun = λ u. ap first (sym (put_line a.at k.on.line u)) ∙ same a.at (k.on.line ++ (10 ∷ u)) (k.begun u);
+      on = following a.at k.on (λ u. add_space (a.there (k.on.line ++ u) (k.begun u)) (k.on.there u));
+      begun = λ u. ap first (sym (put_line a.at k.on.line u)) ∙ same a.at (k.on.line ++ u) (k.begun u);
     }
+
+pub some : {R : Text → Text → Type 0} {s r : Text} → Plus R s r → Star R s r
+some (plus n ss) = more n ss
+
+-- the text t before r
+pub spaces_before_each : (t r : Text) → r ≢ [] → Star NodeSpace (t ++ r) r → AreNodeSpaces (line_text t)
+spaces_before_each t r h ss = go refl ss
+  where
+    go : {s : Text} → s ≡ t ++ r → Star NodeSpace s r → AreNodeSpaces (line_text t)
+    go e none = let f : [] ≡ t = append_cancel_right [] t r e in subst (λ (z : Text). AreNodeSpaces (line_text z)) f (λ w. none)
+    go e (more n ns) =
+        let k = spaces_line n ns h in
+        let f : t ≡ k.on.piece = append_cancel_right t k.on.piece r (sym e ∙ k.on.text) in
+        subst AreNodeSpaces (sym (ap line_text f ∙ k.on.lined [])) (λ w. some (k.on.there w))
 
 -- what ends with node-spaces, cut before them: it comes before each value end, and node-spaces after it
 pub record Cut (R : Text → Text → Type 0) (s r : Text) : Type 0 where
@@ -257,14 +278,11 @@ cut_node (named y w d) =
 
 -- a node before a newline
 pub record NodeLine (x : Node) (s r : Text) : Type 0 where
-  pub on : OnLine (λ s r. IsNode true s r x) s r
+  pub on : OnLine feed (λ s r. IsNode true s r x) s r
   pub begun : Begun on
 
-pub some : {R : Text → Text → Type 0} {s r : Text} → Plus R s r → Star R s r
-some (plus n ss) = more n ss
-
 node_line_at : {x : Node} {s t r : Text} (p : Put s t) → Last s t → ((u : Text) → first (p.put u) ≡ first s)
-    → ((u q : Text) → ValueEnd true u → Star NodeSpace u q → IsNode true (p.put u) q x) → Star NodeSpace t r → starts is_newline_char r ≡ true → NodeLine x s r
+    → ((u q : Text) → ValueEnd true u → Star NodeSpace u q → IsNode true (p.put u) q x) → Star NodeSpace t r → r ≢ [] → NodeLine x s r
 node_line_at {x = x} {t = t} p l full there none h = record {
   on = record {
     piece = p.piece;
@@ -278,9 +296,9 @@ node_line_at {x = x} {t = t} p l full there none h = record {
 node_line_at p l full there (more n ss) h =
     let k = spaces_line n ss h in
     record {
-      on = following p k.on (λ u. there (k.on.line ++ (10 ∷ u)) (10 ∷ u) (some_end (k.on.there u)) (some (k.on.there u)));
-      begun = λ u. ap first (sym (put_line p k.on.line u)) ∙ full (k.on.line ++ (10 ∷ u));
+      on = following p k.on (λ u. there (k.on.line ++ (10 ∷ u)) (10 ∷ u) (some_end (k.on.there (10 ∷ u))) (some (k.on.there (10 ∷ u))));
+      begun = λ u. ap first (sym (put_line p k.on.line (10 ∷ u))) ∙ full (k.on.line ++ (10 ∷ u));
     }
 
 pub node_line : {s r : Text} {x : Node} → IsNode true s r x → starts is_newline_char r ≡ true → NodeLine x s r
-node_line d h = let c = cut_node d in node_line_at c.at c.last c.full c.there c.spaces h
+node_line d h = let c = cut_node d in node_line_at c.at c.last c.full c.there c.spaces (λ e. let z : false ≡ true = sym (ap (starts is_newline_char) e) ∙ h in cc)

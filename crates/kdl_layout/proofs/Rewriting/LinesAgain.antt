@@ -126,7 +126,7 @@ node_newline {s = s} {t = t} {u = u} m n h =
     let o = move_slashdash m in let k = node_line n h in
     let f : between s (line_end u) ≡ o.at.piece ++ k.on.piece = ap (between s) (newline_here u h) ∙ sym (is_between s u (o.at.piece ++ k.on.piece) (put_text o.at k.on.piece u k.on.text)) in
     Standing.dropped_node (λ r.
-    subst (λ (z : Text). DroppedLine z r) (put_line o.at k.on.line r ∙ ap (λ (z : Text). z ++ (10 ∷ r)) (sym (ap line_text f ∙ k.on.lined o.at.piece)))
+    subst (λ (z : Text). DroppedLine z r) (put_line o.at k.on.line (10 ∷ r) ∙ ap (λ (z : Text). z ++ (10 ∷ r)) (sym (ap line_text f ∙ k.on.lined o.at.piece)))
     (DroppedLine.dropped (o.there (k.on.line ++ (10 ∷ r)) (k.begun r)) (k.on.there r) (item_line r) Over.over))
 
 node_comment : {s t u : Text} {x : Node} → Slashdash s t → IsNode true t (47 ∷ 47 ∷ u) x → Standing (piece (between s (line_end (47 ∷ 47 ∷ u))))
