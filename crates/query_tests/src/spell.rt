@@ -37,9 +37,9 @@ static GAPS: [&str; 8] = [
 static ENDS: [&str; 4] = [";", "\n", " // c\n", " ; /-b { a; }\n"];
 
 /// What may be between two pieces of a query, and what has to be there after a bare name.
-static SPACES: [&str; 7] = ["", "", " ", "\n", "/* c */", " // c\n", " \\\n"];
+static SPACES: [&str; 6] = ["", "", " ", "\n", "/* c */", " \\\n"];
 
-static SOME_SPACES: [&str; 6] = [" ", " ", "\t", "\n", "/* c */", " // c\n"];
+static SOME_SPACES: [&str; 5] = [" ", " ", "\t", "\n", "/* c */"];
 
 /// Whether the word may be bare in the language.
 fn may_be_bare(word: Word, language: Language) -> bool {
