@@ -1,4 +1,4 @@
-//! The nodes at paths of a document, as a view shows them.
+//! The nodes that a query selects, as a view shows them.
 
 ghost use Rattle.cli_shown.specs.Nodes.{ShowsSelected, ended, ends_line, node_text, part_shown, shown, shown_at};
 ghost use Rattle.cli_shown.specs.Internal.Trail.{IsTrail};
