@@ -47,7 +47,7 @@ pub use Rattle.kdl_layout.specs.Items.{EndsTight, EsclineItems, GapItems, Item, 
 pub use Rattle.kdl_layout.specs.Kept.{EndItems, ItemsIn, KeptBefore, KeptBeforeBlock, KeptEnd, KeptTail, WrittenUnless, end_comment, end_space, entry_leading, is_kept_format, last_place, without_bom}
 pub use Rattle.kdl_layout.specs.Lacks.{AreNodeSpaces, InPlace}
 pub use Rattle.kdl_layout.specs.OneLine.{IsLaidDocument, IsLaidNode, braces_in_line, braces_on_line, end_on_line, entry_on_line, form_on_line, formats_in_line, head_on_line, in_one_line, is_end, is_on_one_line, line_on_line, maybe_on_line, name_on_line, node_in_line, nodes_in_line, nodes_on_line, one_lined_children, one_lined_document, one_lined_node, one_lined_nodes}
-pub use Rattle.kdl_layout.specs.Parts.{AreFormattedEntries, IsFormattedEntry, NodeTexts, content_of, following, has_block, line_of, put_format}
+pub use Rattle.kdl_layout.specs.Parts.{AreFormattedEntries, IsFormattedEntry, NodeTexts, block_of, content_of, following, has_block, is_empty_block, line_of, newline_at_end, put_format}
 pub use Rattle.kdl_layout.specs.Plain.{no_newline, only_spaces, plain_line}
 pub use Rattle.kdl_layout.specs.Respelled.{AreRespelledChildren, AreRespelledEntries, AreRespelledNodes, HasSpellings, HasSpellingsIf, HasSpellingsUnless, IsContinued, IsRespelled, IsRespelledDocument, IsRespelledEntry, IsRespelledHead, IsRespelledIf, IsRespelledNode, IsSpelledEntry, IsSpelling, IsTypedFormat, KeepsForm, KeptForm, KeptLeading, KeptLeadingIf, KeptPlace, KeptPlaceIf, KeptSpelling, KeptTypeTexts, KeptTypeTextsIf, TypeTexts, NothingInside, bare_inside, entry_type_texts, node_type_texts, text_before, with_type_texts}
 pub use Rattle.kdl_layout.specs.Spaced.{AreSpacedNodes, IsSpacedBraced, IsSpacedChildren, IsSpacedContent, IsSpacedDocument, IsSpacedHead, IsSpacedLine, IsSpacedNode, Passes, PassesFormat, PassesNode, PassesNodes, PassesText, SpacedLines, SpacesContent, SpacesTexts}

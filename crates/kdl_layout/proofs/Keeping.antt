@@ -14,3 +14,5 @@ pub mod InnerItems
 pub mod CommentsStay
 -- Gaps that come before any other gap, with their items.
 pub mod GapFronts
+-- The texts around the nodes of a block.
+pub mod Blocks

@@ -124,10 +124,10 @@ abbrev mutual
   one_lined_nodes keep (first n ns) (first n' ns') = first (one_lined_node keep n n') (one_lined_nodes keep ns ns')
 
 -- the second node is the first one, laid out at the level with blank lines, and with what `keep` keeps inside nodes; each
--- block that is on one line stays there if `line` is true
-abbrev pub IsLaidNode : Keeping → Bool → ℕ → Settings → ℕ → Before → Node → Node → Type 0
-IsLaidNode keep line number s level b n n' = (r : Node) × IsSpelledNode keep number s level b n r × (n' ≡ one_lined_node line n r)
+-- block that is on one line stays there if `line` is true, and no newline is in place of nodes if `compact` is true
+abbrev pub IsLaidNode : Keeping → Bool → Bool → ℕ → Settings → ℕ → Before → Node → Node → Type 0
+IsLaidNode keep line compact number s level b n n' = (r : Node) × IsSpelledNode keep compact number s level b n r × (n' ≡ one_lined_node line n r)
 
 -- the same for a document
-abbrev pub IsLaidDocument : Keeping → Bool → ℕ → Settings → ℕ → Document → Document → Type 0
-IsLaidDocument keep line number s level d d' = (r : Document) × IsSpelledDocument keep number s level d r × (d' ≡ one_lined_document line d r)
+abbrev pub IsLaidDocument : Keeping → Bool → Bool → ℕ → Settings → ℕ → Document → Document → Type 0
+IsLaidDocument keep line compact number s level d d' = (r : Document) × IsSpelledDocument keep compact number s level d r × (d' ≡ one_lined_document line d r)

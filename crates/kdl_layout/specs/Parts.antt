@@ -1,11 +1,11 @@
 -- The parts of a node and a document, laid out: entries, and the texts around the other parts.
-use Rattle.std.specs.Prelude.{◌≡◌, Bool, true, false, List, [], ◌∷◌, ◌++◌, Option, None, Some}
+use Rattle.std.specs.Prelude.{◌≡◌, Bool, true, false, if◌then◌else◌, List, [], ◌∷◌, ◌++◌, Option, None, Some}
 use Rattle.kdl_text.specs.Chars.{Text}
 use Rattle.kdl_value.specs.Print.{print_value}
 use Rattle.kdl_entry.specs.Tree.{Entry, EntryFormat, empty_format, autoformatted}
-use Rattle.kdl_grammar.specs.Tree.{NodeFormat, DocumentFormat, Children, no_children, children, Nodes}
+use Rattle.kdl_grammar.specs.Tree.{NodeFormat, DocumentFormat, Children, no_children, children, Nodes, none}
 use Rattle.kdl_layout.specs.Config.{Settings}
-use Rattle.kdl_layout.specs.Formatted.{with_keep_if, newline_if_none}
+use Rattle.kdl_layout.specs.Formatted.{with_keep_if, newline_if_none, in_braces}
 use Rattle.kdl_layout.specs.Kept.{KeptBefore}
 
 -- an entry after what is kept of the text before it, if anything is kept
@@ -50,9 +50,24 @@ line_of before k = record {
   trailing = k.following;
 }
 
+-- a newline if there are no nodes, unless `compact` is true
+abbrev pub newline_at_end : Bool → Nodes → Text
+newline_at_end true ns = []
+newline_at_end false ns = newline_if_none ns
+
 -- the texts around the nodes of a document
-abbrev pub content_of : Nodes → Text → Text → DocumentFormat
-content_of ns before following = record { leading = before; trailing = following ++ newline_if_none ns }
+abbrev pub content_of : Bool → Nodes → Text → Text → DocumentFormat
+content_of compact ns before following = record { leading = before; trailing = following ++ newline_at_end compact ns }
+
+-- a block that prints `{}`: `compact` is true, it has no nodes, and no comment is kept in it
+abbrev pub is_empty_block : Bool → Nodes → Text → Text → Bool
+is_empty_block true none [] [] = true
+is_empty_block _ _ _ _ = false
+
+-- the texts around the nodes of a block, in a node with the indentation
+abbrev pub block_of : Bool → Text → Nodes → Text → Text → DocumentFormat
+block_of compact indentation ns before following =
+    if is_empty_block compact ns before following then record { leading = []; trailing = [] } else in_braces indentation (content_of compact ns before following)
 
 -- whether the node has a block
 abbrev pub has_block : Children → Bool

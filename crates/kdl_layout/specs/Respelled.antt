@@ -202,8 +202,8 @@ abbrev pub AreSpelledEntries : Keeping → Settings → List Entry → List Entr
 AreSpelledEntries keep s es es' = (ms : List Entry) × AreFormattedEntries s es ms × AreRespelledEntries keep s es ms es'
 
 -- a node at a level, after what comes before it, and a document with its nodes at the level, laid out with blank lines
-abbrev pub IsSpelledNode : Keeping → ℕ → Settings → ℕ → Before → Node → Node → Type 0
-IsSpelledNode keep number s level b n n' = (m : Node) × IsSpacedNode number s level b n m × IsRespelledNode keep s n m n'
+abbrev pub IsSpelledNode : Keeping → Bool → ℕ → Settings → ℕ → Before → Node → Node → Type 0
+IsSpelledNode keep compact number s level b n n' = (m : Node) × IsSpacedNode compact number s level b n m × IsRespelledNode keep s n m n'
 
-abbrev pub IsSpelledDocument : Keeping → ℕ → Settings → ℕ → Document → Document → Type 0
-IsSpelledDocument keep number s level d d' = (m : Document) × IsSpacedDocument number s level d m × IsRespelledDocument keep s d m d'
+abbrev pub IsSpelledDocument : Keeping → Bool → ℕ → Settings → ℕ → Document → Document → Type 0
+IsSpelledDocument keep compact number s level d d' = (m : Document) × IsSpacedDocument compact number s level d m × IsRespelledDocument keep s d m d'

@@ -6,9 +6,9 @@ use Rattle.kdl_grammar.specs.Tree.{NodeFormat, DocumentFormat, Head, Node, node,
 use Rattle.kdl_layout.specs.Items.{Item, GapItems}
 use Rattle.kdl_layout.specs.Blank.{at_start, past_items, past_node, empty_lines, spaced_lines}
 use Rattle.kdl_layout.specs.Config.{Settings, indentation}
-use Rattle.kdl_layout.specs.Formatted.{or_empty, or_empty_document, in_braces}
+use Rattle.kdl_layout.specs.Formatted.{or_empty, or_empty_document}
 use Rattle.kdl_layout.specs.Kept.{WrittenUnless, KeptTail, KeptBeforeBlock, last_place, KeptEnd, without_bom}
-use Rattle.kdl_layout.specs.Parts.{AreFormattedEntries, NodeTexts, line_of, content_of, has_block}
+use Rattle.kdl_layout.specs.Parts.{AreFormattedEntries, NodeTexts, line_of, content_of, block_of, has_block}
 use Rattle.kdl_layout.specs.declared.blank.Before.{Before}
 
 -- what comes before the thing after a text between nodes; a text that can't be in the place changes nothing
@@ -71,32 +71,33 @@ pub record SpacesContent (number : ℕ) (s : Settings) (level : ℕ) (ns : Nodes
   pub passes : PassesNodes number s b ns last
   pub trailing : SpacedLines number s level last f.trailing following after_it
 
--- the second texts are those around the nodes of a document that is laid out at a level
-abbrev pub IsSpacedContent : ℕ → Settings → ℕ → Nodes → DocumentFormat → Before → Option DocumentFormat → Type 0
-IsSpacedContent number s level ns f b g = (before following : Text) × SpacesContent number s level ns f b before following × (g ≡ Some (content_of ns before following))
+-- the second texts are those around the nodes of a document that is laid out at a level, without a newline in place of
+-- nodes if `compact` is true
+abbrev pub IsSpacedContent : Bool → ℕ → Settings → ℕ → Nodes → DocumentFormat → Before → Option DocumentFormat → Type 0
+IsSpacedContent compact number s level ns f b g = (before following : Text) × SpacesContent number s level ns f b before following × (g ≡ Some (content_of compact ns before following))
 
 -- the same between the braces of a node at the level
-abbrev pub IsSpacedBraced : ℕ → Settings → ℕ → Nodes → DocumentFormat → Before → Option DocumentFormat → Type 0
-IsSpacedBraced number s level ns f b g = (before following : Text) × SpacesContent number s (level + 1) ns f b before following × (g ≡ Some (in_braces (indentation s level) (content_of ns before following)))
+abbrev pub IsSpacedBraced : Bool → ℕ → Settings → ℕ → Nodes → DocumentFormat → Before → Option DocumentFormat → Type 0
+IsSpacedBraced compact number s level ns f b g = (before following : Text) × SpacesContent number s (level + 1) ns f b before following × (g ≡ Some (block_of compact (indentation s level) ns before following))
 
 -- the second node is the first one, laid out at the level, after the blank lines before it
 abbrev mutual
-  pub IsSpacedNode : ℕ → Settings → ℕ → Before → Node → Node → Type 0
-  IsSpacedNode number s level b (node h k) (node h' k') = IsSpacedHead number s level (has_block k) b h h' × IsSpacedChildren number s level k k'
+  pub IsSpacedNode : Bool → ℕ → Settings → ℕ → Before → Node → Node → Type 0
+  IsSpacedNode compact number s level b (node h k) (node h' k') = IsSpacedHead number s level (has_block k) b h h' × IsSpacedChildren compact number s level k k'
 
-  pub IsSpacedChildren : ℕ → Settings → ℕ → Children → Children → Type 0
-  IsSpacedChildren number s level no_children no_children = Unit {0}
-  IsSpacedChildren number s level (children (document f span ns)) (children (document f' span' ns')) =
-      (b : Before) × IsSpacedBraced number s level ns (or_empty_document f) b f' × (span' ≡ span) × AreSpacedNodes number s (level + 1) b ns ns' × (level + 1 < 2 ^ 64)
-  IsSpacedChildren number s level _ _ = ⊥
+  pub IsSpacedChildren : Bool → ℕ → Settings → ℕ → Children → Children → Type 0
+  IsSpacedChildren compact number s level no_children no_children = Unit {0}
+  IsSpacedChildren compact number s level (children (document f span ns)) (children (document f' span' ns')) =
+      (b : Before) × IsSpacedBraced compact number s level ns (or_empty_document f) b f' × (span' ≡ span) × AreSpacedNodes compact number s (level + 1) b ns ns' × (level + 1 < 2 ^ 64)
+  IsSpacedChildren compact number s level _ _ = ⊥
 
-  pub AreSpacedNodes : ℕ → Settings → ℕ → Before → Nodes → Nodes → Type 0
-  AreSpacedNodes number s level b none none = Unit {0}
-  AreSpacedNodes number s level b (first n ns) (first n' ns') =
-      (b' : Before) × IsSpacedNode number s level b n n' × PassesNode number s n b' × AreSpacedNodes number s level b' ns ns'
-  AreSpacedNodes number s level b _ _ = ⊥
+  pub AreSpacedNodes : Bool → ℕ → Settings → ℕ → Before → Nodes → Nodes → Type 0
+  AreSpacedNodes compact number s level b none none = Unit {0}
+  AreSpacedNodes compact number s level b (first n ns) (first n' ns') =
+      (b' : Before) × IsSpacedNode compact number s level b n n' × PassesNode number s n b' × AreSpacedNodes compact number s level b' ns ns'
+  AreSpacedNodes compact number s level b _ _ = ⊥
 
 -- the second document is the first one, laid out with its nodes at the level
-abbrev pub IsSpacedDocument : ℕ → Settings → ℕ → Document → Document → Type 0
-IsSpacedDocument number s level (document f span ns) (document f' span' ns') =
-    (b : Before) × IsSpacedContent number s level ns (or_empty_document f) b f' × (span' ≡ span) × AreSpacedNodes number s level b ns ns'
+abbrev pub IsSpacedDocument : Bool → ℕ → Settings → ℕ → Document → Document → Type 0
+IsSpacedDocument compact number s level (document f span ns) (document f' span' ns') =
+    (b : Before) × IsSpacedContent compact number s level ns (or_empty_document f) b f' × (span' ≡ span) × AreSpacedNodes compact number s level b ns ns'

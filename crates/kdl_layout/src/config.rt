@@ -67,11 +67,15 @@ pub struct Layout<'a> {
     /// its nodes have no blocks. Comments count even if they are removed. Its last node ends without a terminator, so a
     /// node that is pushed to the list of nodes itself becomes a part of it, as after a text that was read so.
     pub keep_one_line: bool,
+    /// Whether a document or a block without nodes ends after the line of its last comment. If no comment is kept, the
+    /// document prints nothing, and the block `{}`. Without this field, a newline is in place of the nodes: an empty line
+    /// comes after the comments, and between the braces.
+    pub compact_empty: bool,
 }
 
 impl Layout<'_> {
     /// Creates a layout with the default configuration, which keeps no blank lines, no spellings, no comments inside
-    /// entries and types, and no blocks on one line.
+    /// entries and types, and no blocks on one line, and has a newline in place of nodes.
     ///
     /// ```
     /// let layout = Layout { blank_lines: 1, ..Layout::new() };
@@ -81,6 +85,7 @@ impl Layout<'_> {
         ensures blank_lines { result.blank_lines ≡ 0 }
         ensures keeping { keeping result ≡ nothing }
         ensures one_line { result.keep_one_line ≡ false }
+        ensures compact_empty { result.compact_empty ≡ false }
     {
         Layout {
             config: FormatConfig::default(),
@@ -88,6 +93,7 @@ impl Layout<'_> {
             keep_spelling: false,
             keep_inner_comments: false,
             keep_one_line: false,
+            compact_empty: false,
         }
     }
 
@@ -101,7 +107,7 @@ impl Layout<'_> {
 
 impl Default for Layout<'_> {
     ghost is_default = { λ l. (settings l.config ≡ defaults) × (l.blank_lines ≡ 0)
-        × (keeping l ≡ nothing) × (l.keep_one_line ≡ false) };
+        × (keeping l ≡ nothing) × (l.keep_one_line ≡ false) × (l.compact_empty ≡ false) };
 
     fn default() -> Self {
         Layout::new()

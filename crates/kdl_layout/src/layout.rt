@@ -14,7 +14,7 @@ ghost use Rattle.kdl_layout.specs.Respelled.{AreSpelledEntries, HasSpellings, Is
 ghost use Rattle.kdl_layout.specs.Internal.Laying.{EndsNodes, KeepsBeforeNode, KeepsLines, KeepsLinesAfter, PassesLine, SetsContent, SetsLine};
 ghost use Rattle.kdl_layout.specs.Spaced.{IsSpacedBraced, Passes};
 ghost use Rattle.kdl_layout.specs.WellFormed.{AreWellFormedEntries, IsWellFormedEntry};
-ghost use Rattle.kdl_layout.specs.Parts.{put_format};
+ghost use Rattle.kdl_layout.specs.Parts.{newline_at_end, put_format};
 ghost use Rattle.kdl_grammar.specs.ReadsBack.{EntryReads};
 ghost use Rattle.kdl_grammar.specs.Tree.{Nodes};
 ghost use Rattle.kdl_layout.specs.Internal.Reading.{place_view};
@@ -24,7 +24,7 @@ ghost use Rattle.kdl_text.specs.Trivia.{LineComment};
 ghost use Rattle.kdl_value.specs.Tree.{text_of, value_tree};
 ghost use Rattle.kdl_value.specs.WellFormed.{IsWellFormed};
 ghost use Rattle.std.specs.List.{All, list_all, repeat};
-ghost use Rattle.std.specs.Prelude.{◌≡◌, ◌+◌, ◌==◌, ◌≤◌, ◌||◌, ◌++◌, ◌∷◌, [], ℕ, Bool, IfOk, IsTrue, MatchOption, OnErr, OnOk, Some, is_none, length, map, false, option_map, string_capacity, true};
+ghost use Rattle.std.specs.Prelude.{◌≡◌, ◌+◌, ◌==◌, ◌≤◌, ◌&&◌, ◌||◌, ◌++◌, ◌∷◌, [], ℕ, Bool, IfOk, IsTrue, MatchOption, OnErr, OnOk, Some, is_none, length, map, false, option_map, string_capacity, string_len, true};
 ghost use Rattle.std.specs.Str.{chars};
 
 use crate::blank::{Before, Last, past_items, past_node, push_empty_lines, push_spaced_lines};
@@ -560,9 +560,24 @@ fn texts_of(format: &Option<KdlDocumentFormat>) -> (&str, &str)
     }
 }
 
+/// Returns what comes after what is kept of the text after the nodes: a newline if there are no nodes, unless the layout
+/// is compact there. `last` is as in `content`.
+fn content_end(layout: &Layout, last: Option<Before>) -> &'static str
+    ensures { (ns : Nodes) → newline_if (is_none last) ≡ newline_if_none ns
+        → chars result.now ≡ newline_at_end layout.now.compact_empty ns }
+{
+    if layout.compact_empty {
+        return "";
+    }
+    match last {
+        Some(_) => "",
+        None => "\n",
+    }
+}
+
 /// Returns the texts before and after the nodes of a document at a level, and what comes before the first node: the
-/// comments that are kept, each after the indentation, and a newline if there are no nodes. `last` is what comes before
-/// the text after the last node, or `None` if there are no nodes.
+/// comments that are kept, each after the indentation, and a newline if there are no nodes and the layout is not compact
+/// there. `last` is what comes before the text after the last node, or `None` if there are no nodes.
 fn content(
     alloc: Global,
     layout: &Layout,
@@ -580,14 +595,14 @@ fn content(
     let leading = lines_at(alloc, layout, level, &mut first, without_bom(before_first))?;
     let mut next = last.unwrap_or(first);
     let mut trailing = lines_at(alloc, layout, level, &mut next, after_last)?;
-    let end = if last.is_none() { "\n" } else { "" };
-    push_text(&mut trailing, end)?;
+    push_text(&mut trailing, content_end(layout, last))?;
     Ok((KdlDocumentFormat { leading, trailing }, first))
 }
 
 /// Sets the texts before and after the nodes of a document at a level: the comments that are kept, each after the
-/// indentation, and a newline if there are no nodes. `last` is what comes before the text after the last node, or
-/// `None` if there are no nodes. Returns what comes before the first node. If an allocation fails, no text changes.
+/// indentation, and a newline if there are no nodes and the layout is not compact there. `last` is what comes before the
+/// text after the last node, or `None` if there are no nodes. Returns what comes before the first node. If an allocation
+/// fails, no text changes.
 pub fn lay_out_content(
     format: &mut Option<KdlDocumentFormat>,
     alloc: Global,
@@ -606,9 +621,18 @@ pub fn lay_out_content(
     Ok(first)
 }
 
+/// Returns whether a block prints `{}`, if `content` returns these texts for it.
+fn is_empty_block(layout: &Layout, last: Option<Before>, texts: &KdlDocumentFormat) -> bool
+    ensures { result ≡ (layout.now.compact_empty && is_none last
+        && (string_len texts.now.leading == 0) && (string_len texts.now.trailing == 0)) }
+{
+    layout.compact_empty && last.is_none() && texts.leading.is_empty() && texts.trailing.is_empty()
+}
+
 /// Returns the texts before and after the nodes between the braces of a node, like those that `lay_out_content` sets,
-/// with a newline after the `{`, and the indentation of the node, `margin`, before the `}`. `inner` is the level between
-/// the braces. Returns what comes before the first node as well. The old texts are `format`.
+/// with a newline after the `{`, and the indentation of the node, `margin`, before the `}`. Both texts are empty if the
+/// layout is compact where there are no nodes, and nothing is kept. `inner` is the level between the braces. Returns what
+/// comes before the first node as well. The old texts are `format`.
 pub fn braces(
     format: &Option<KdlDocumentFormat>,
     alloc: Global,
@@ -620,16 +644,18 @@ pub fn braces(
     ensures { IfOk result (λ (f, b). (level : ℕ) (ns : Nodes) → inner ≡ level + 1
         → chars margin.now ≡ indentation (settings layout.now.config) level
         → newline_if (is_none last) ≡ newline_if_none ns → EndsNodes layout.now last ns
-        → IsSpacedBraced layout.now.blank_lines (settings layout.now.config) level ns
+        → IsSpacedBraced layout.now.compact_empty layout.now.blank_lines
+        (settings layout.now.config) level ns
         (or_empty_document (document_texts format.now)) b (Some (document_format_tree f))) }
 {
-    let (
-        KdlDocumentFormat {
-            leading: kept,
-            mut trailing,
-        },
-        first,
-    ) = content(alloc, layout, inner, format, last)?;
+    let (texts, first) = content(alloc, layout, inner, format, last)?;
+    if is_empty_block(layout, last, &texts) {
+        return Ok((texts, first));
+    }
+    let KdlDocumentFormat {
+        leading: kept,
+        mut trailing,
+    } = texts;
     let mut leading = no_text(alloc);
     push_text(&mut leading, "\n")?;
     push_text(&mut leading, kept.as_str())?;

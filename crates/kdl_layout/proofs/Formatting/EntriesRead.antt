@@ -1,5 +1,5 @@
 -- An entry that is laid out reads back where it did before.
-use Rattle.kdl_layout.proofs.Common.{◌≡◌, zero, suc, Bool, true, false, ◌||◌, List, [], ◌∷◌, refl, sym, ap, subst, ◌∙◌, Option, Some, None, option_map, arith, ◌++◌, append_assoc, All-cons, All-nil, All, Text, ValueEnd, Entry, EntryFormat, with_keep, autoformatted, entry_data, Identifier, IsPlainValue, MaybeType, untyped, typed, parens, value, IsEntry, property, argument, EntryLeading, print_identifier, print_key, print_type, EntryReads, Gap, Nodes, none, first, newline_gap, before_entry, PlaceItems, tail, Settings, keeps_texts, Keeping, with_keep_if, newline_if_none, WrittenUnless, entry_leading, is_kept_format, KeptForm, HasSpellings, HasSpellingsIf, HasSpellingsUnless, IsSpelledEntry, TypeTexts, IsWellFormedEntry, following, IsFormattedEntry, Value, punctuation_end}
+use Rattle.kdl_layout.proofs.Common.{◌≡◌, zero, suc, Bool, true, false, ◌||◌, List, [], ◌∷◌, refl, sym, ap, subst, ◌∙◌, Option, Some, None, option_map, arith, ◌++◌, append_assoc, All-cons, All-nil, All, Text, ValueEnd, Entry, EntryFormat, with_keep, autoformatted, entry_data, Identifier, IsPlainValue, MaybeType, untyped, typed, parens, value, IsEntry, property, argument, EntryLeading, print_identifier, print_key, print_type, EntryReads, Gap, Nodes, none, first, newline_gap, before_entry, PlaceItems, tail, Settings, keeps_texts, Keeping, with_keep_if, newline_at_end, WrittenUnless, entry_leading, is_kept_format, KeptForm, HasSpellings, HasSpellingsIf, HasSpellingsUnless, IsSpelledEntry, TypeTexts, IsWellFormedEntry, following, IsFormattedEntry, Value, punctuation_end}
 use Rattle.kdl_grammar.proofs.Laying.LaidIsDerived.{first_entry}
 use Rattle.kdl_layout.specs.Config as Config
 use Rattle.kdl_layout.specs.KeptForm.{KeepsReading, EntriesKeepReading}
@@ -31,9 +31,10 @@ item_reads (Some i) o x {r = r} a t s p =
     rw (key_joined (print_identifier i) x.after_key x.after_eq rest)
     (property (string_before (print_identifier i) i.value (x.after_key ++ (61 ∷ (x.after_eq ++ rest))) a (spaces_end x.after_key s.after_key _ (punctuation_end 61 refl))) (s.after_key _) (s.after_eq rest) (value (type_reads o x.ty r t s.ty_spaces s.untyped) p))
 
-pub empty_gap : (ns : Nodes) {t r : Text} → Gap true t r → Gap true (newline_if_none ns ++ t) r
-empty_gap none g = newline_gap g
-empty_gap (first n ns) g = g
+pub empty_gap : (compact : Bool) (ns : Nodes) {t r : Text} → Gap true t r → Gap true (newline_at_end compact ns ++ t) r
+empty_gap true ns g = g
+empty_gap false none g = newline_gap g
+empty_gap false (first n ns) g = g
 
 -- what is kept before an entry
 entry_tail : (s : Settings) (e e' : Entry) (w : IsWrittenEntry s e e') → Tail (before_entry false) w.before

@@ -58,7 +58,7 @@ line_plain s level has b f k e w =
       lines_none s level (past_node f.terminator) f.trailing k.following e w.following.0,
     ) refl
 
-content_plain : (s : Settings) (level : ℕ) (ns : Nodes) (f : DocumentFormat) (b : Before) (x y : Text) → s.no_comments ≡ true → SpacesContent 0 s level ns f b x y → content_of ns x y ≡ content_format ns
+content_plain : (s : Settings) (level : ℕ) (ns : Nodes) (f : DocumentFormat) (b : Before) (x y : Text) → s.no_comments ≡ true → SpacesContent 0 s level ns f b x y → content_of false ns x y ≡ content_format ns
 content_plain s level ns f b x y e w = rw (lines_none s level at_start (without_bom f.leading) x e w.leading.0, lines_none s level w.last f.trailing y e w.trailing.0) refl
 
 -- then what layout makes is what the function gives
@@ -78,17 +78,17 @@ line_left s level has b f g h l = l.2 ∙ ap Some (line_plain s level has b f l.
 head_left : (s : Settings) (level : ℕ) (has : Bool) (b : Before) (h h' : Head) → s.no_comments ≡ true → IsSpacedHead 0 s level has b h h' → h' ≡ formatted_head s level h
 head_left s level has b h h' e f = head_same f.ty f.name (entries_left_out s h.entries h'.entries e f.entries) (line_left s level has b (or_empty h.format) h'.format e f.format) f.span
 
-content_left : (s : Settings) (level : ℕ) (ns : Nodes) (f : DocumentFormat) (b : Before) (g : Option DocumentFormat) → s.no_comments ≡ true → IsSpacedContent 0 s level ns f b g → g ≡ Some (content_format ns)
+content_left : (s : Settings) (level : ℕ) (ns : Nodes) (f : DocumentFormat) (b : Before) (g : Option DocumentFormat) → s.no_comments ≡ true → IsSpacedContent false 0 s level ns f b g → g ≡ Some (content_format ns)
 content_left s level ns f b g h c = c.3 ∙ ap Some (content_plain s level ns f b c.0 c.1 h c.2)
 
-braces_left : (s : Settings) (level : ℕ) (ns : Nodes) (f : DocumentFormat) (b : Before) (g : Option DocumentFormat) → s.no_comments ≡ true → IsSpacedBraced 0 s level ns f b g → g ≡ Some (in_braces (indentation s level) (content_format ns))
+braces_left : (s : Settings) (level : ℕ) (ns : Nodes) (f : DocumentFormat) (b : Before) (g : Option DocumentFormat) → s.no_comments ≡ true → IsSpacedBraced false 0 s level ns f b g → g ≡ Some (in_braces (indentation s level) (content_format ns))
 braces_left s level ns f b g h c = c.3 ∙ ap (λ (x : DocumentFormat). Some (in_braces (indentation s level) x)) (content_plain s (level + 1) ns f b c.0 c.1 h c.2)
 
 mutual
-  pub left_out : (s : Settings) (level : ℕ) (b : Before) (n n' : Node) → s.no_comments ≡ true → IsSpacedNode 0 s level b n n' → n' ≡ formatted_node s level n
+  pub left_out : (s : Settings) (level : ℕ) (b : Before) (n n' : Node) → s.no_comments ≡ true → IsSpacedNode false 0 s level b n n' → n' ≡ formatted_node s level n
   left_out s level b (node h k) (node h' k') e f = let own = head_left s level (has_block k) b h h' e f.0 in let below = children_left_out s level k k' e f.1 in cc
 
-  children_left_out : (s : Settings) (level : ℕ) (k k' : Children) → s.no_comments ≡ true → IsSpacedChildren 0 s level k k' → k' ≡ formatted_children s level k
+  children_left_out : (s : Settings) (level : ℕ) (k k' : Children) → s.no_comments ≡ true → IsSpacedChildren false 0 s level k k' → k' ≡ formatted_children s level k
   children_left_out s level no_children no_children e f = refl
   children_left_out s level (children (document f span ns)) (children (document f' span' ns')) e (b, c, same, nodes, fits) =
       let braces = braces_left s level ns (or_empty_document f) b f' e c in
@@ -96,7 +96,7 @@ mutual
       λ i. children (document (braces i) (same i) (below i))
   children_left_out s level _ _ e f = absurd assumption
 
-  nodes_left_out : (s : Settings) (level : ℕ) (b : Before) (ns ns' : Nodes) → s.no_comments ≡ true → AreSpacedNodes 0 s level b ns ns' → ns' ≡ formatted_nodes s level ns
+  nodes_left_out : (s : Settings) (level : ℕ) (b : Before) (ns ns' : Nodes) → s.no_comments ≡ true → AreSpacedNodes false 0 s level b ns ns' → ns' ≡ formatted_nodes s level ns
   nodes_left_out s level b none none e f = refl
   nodes_left_out s level b (first n ns) (first n' ns') e (b', f, p, g) = let x = left_out s level b n n' e f in let y = nodes_left_out s level b' ns ns' e g in cc
   nodes_left_out s level b _ _ e f = absurd assumption
@@ -176,16 +176,16 @@ formatted_entries_det s _ _ _ a b = absurd assumption
 line_det : (s : Settings) (level : ℕ) (has : Bool) (b c : Before) (f : NodeFormat) (g g' : Option NodeFormat) → IsSpacedLine 0 s level has b f g → IsSpacedLine 0 s level has c f g' → g ≡ g'
 line_det s level has b c f g g' v w = v.2 ∙ ap (λ (k : NodeTexts). Some (line_of (indentation s level) k)) (texts_det s level has b c f v.0 w.0 v.1 w.1) ∙ sym w.2
 
-content_texts_det : (s : Settings) (level : ℕ) (ns : Nodes) (f : DocumentFormat) (b c : Before) (t u t' u' : Text) → SpacesContent 0 s level ns f b t u → SpacesContent 0 s level ns f c t' u' → content_of ns t u ≡ content_of ns t' u'
+content_texts_det : (s : Settings) (level : ℕ) (ns : Nodes) (f : DocumentFormat) (b c : Before) (t u t' u' : Text) → SpacesContent 0 s level ns f b t u → SpacesContent 0 s level ns f c t' u' → content_of false ns t u ≡ content_of false ns t' u'
 content_texts_det s level ns f b c t u t' u' v w =
     let before = lines_det s level at_start at_start (without_bom f.leading) t t' v.leading.0 w.leading.0 in
     let more = lines_det s level v.last w.last f.trailing u u' v.trailing.0 w.trailing.0 in
-    λ i. content_of ns (before i) (more i)
+    λ i. content_of false ns (before i) (more i)
 
-content_det : (s : Settings) (level : ℕ) (ns : Nodes) (f : DocumentFormat) (b c : Before) (g g' : Option DocumentFormat) → IsSpacedContent 0 s level ns f b g → IsSpacedContent 0 s level ns f c g' → g ≡ g'
+content_det : (s : Settings) (level : ℕ) (ns : Nodes) (f : DocumentFormat) (b c : Before) (g g' : Option DocumentFormat) → IsSpacedContent false 0 s level ns f b g → IsSpacedContent false 0 s level ns f c g' → g ≡ g'
 content_det s level ns f b c g g' v w = v.3 ∙ ap Some (content_texts_det s level ns f b c v.0 v.1 w.0 w.1 v.2 w.2) ∙ sym w.3
 
-braces_det : (s : Settings) (level : ℕ) (ns : Nodes) (f : DocumentFormat) (b c : Before) (g g' : Option DocumentFormat) → IsSpacedBraced 0 s level ns f b g → IsSpacedBraced 0 s level ns f c g' → g ≡ g'
+braces_det : (s : Settings) (level : ℕ) (ns : Nodes) (f : DocumentFormat) (b c : Before) (g g' : Option DocumentFormat) → IsSpacedBraced false 0 s level ns f b g → IsSpacedBraced false 0 s level ns f c g' → g ≡ g'
 braces_det s level ns f b c g g' v w =
     v.3 ∙ ap (λ (x : DocumentFormat). Some (in_braces (indentation s level) x)) (content_texts_det s (level + 1) ns f b c v.0 v.1 w.0 w.1 v.2 w.2) ∙ sym w.3
 
@@ -194,13 +194,13 @@ head_det s level has b c h x y v w =
     head_same (v.ty ∙ sym w.ty) (v.name ∙ sym w.name) (formatted_entries_det s h.entries x.entries y.entries v.entries w.entries) (line_det s level has b c (or_empty h.format) x.format y.format v.format w.format) (v.span ∙ sym w.span)
 
 mutual
-  formatted_node_det : (s : Settings) (level : ℕ) (b c : Before) (n x y : Node) → IsSpacedNode 0 s level b n x → IsSpacedNode 0 s level c n y → x ≡ y
+  formatted_node_det : (s : Settings) (level : ℕ) (b c : Before) (n x y : Node) → IsSpacedNode false 0 s level b n x → IsSpacedNode false 0 s level c n y → x ≡ y
   formatted_node_det s level b c (node h k) (node h1 k1) (node h2 k2) v w =
       let own = head_det s level (has_block k) b c h h1 h2 v.0 w.0 in
       let below = formatted_children_det s level k k1 k2 v.1 w.1 in
       cc
 
-  formatted_children_det : (s : Settings) (level : ℕ) (k x y : Children) → IsSpacedChildren 0 s level k x → IsSpacedChildren 0 s level k y → x ≡ y
+  formatted_children_det : (s : Settings) (level : ℕ) (k x y : Children) → IsSpacedChildren false 0 s level k x → IsSpacedChildren false 0 s level k y → x ≡ y
   formatted_children_det s level no_children no_children no_children a b = refl
   formatted_children_det s level (children (document f span ns)) (children (document f1 span1 ns1)) (children (document f2 span2 ns2)) a b =
       let braces = braces_det s level ns (or_empty_document f) a.0 b.0 f1 f2 a.1 b.1 in
@@ -209,7 +209,7 @@ mutual
       λ i. children (document (braces i) (at i) (below i))
   formatted_children_det s level _ _ _ a b = absurd assumption
 
-  formatted_nodes_det : (s : Settings) (level : ℕ) (b c : Before) (ns x y : Nodes) → AreSpacedNodes 0 s level b ns x → AreSpacedNodes 0 s level c ns y → x ≡ y
+  formatted_nodes_det : (s : Settings) (level : ℕ) (b c : Before) (ns x y : Nodes) → AreSpacedNodes false 0 s level b ns x → AreSpacedNodes false 0 s level c ns y → x ≡ y
   formatted_nodes_det s level b c none none none v w = refl
   formatted_nodes_det s level b c (first n ns) (first n1 ns1) (first n2 ns2) v w =
       let here = formatted_node_det s level b c n n1 n2 v.1 w.1 in

@@ -1,5 +1,5 @@
 -- A node or document of which a part is laid out reads back where it did before.
-use Rattle.kdl_layout.proofs.Common.{◌≡◌, Keeping, ℕ, ◌+◌, Bool, true, false, List, [], ◌∷◌, ◌++◌, refl, sym, subst, Option, Some, None, append_assoc, All, list_all, Text, is_space, ValueEnd, SourceSpan, print_identifier, print_type, Identifier, named, IsNode, AfterName, no_gap, BeforeChildren, Rests, Anything, TextEnd, EntryReads, HeadReads, AddsNothing, EndReads, NodeReads, reads, ChildrenRead, a_block, NodesRead, no_node, last_node, next_node, ContentReads, two_texts, with_nodes, BlockReads, DocumentReads, NodeFormat, DocumentFormat, Head, node, Children, no_children, children, document, Nodes, none, first, gap_nodes, newline_gap, GapItems, before_block, at_start, past_node, Settings, indentation, or_empty_document, newline_if_none, KeptBeforeBlock, last_place, without_bom, TypeTexts, with_type_texts, AreRespelledNodes, SpacedLines, SpacesTexts, IsSpacedContent, IsSpacedBraced, AreSpacedNodes, NodeTexts, line_of, has_block, Before}
+use Rattle.kdl_layout.proofs.Common.{◌≡◌, Keeping, ℕ, ◌+◌, Bool, true, false, List, [], ◌∷◌, ◌++◌, refl, sym, subst, Option, Some, None, append_assoc, All, list_all, Text, is_space, ValueEnd, SourceSpan, print_identifier, print_type, Identifier, named, IsNode, AfterName, no_gap, BeforeChildren, Rests, Anything, TextEnd, EntryReads, HeadReads, AddsNothing, EndReads, NodeReads, reads, ChildrenRead, a_block, NodesRead, no_node, last_node, next_node, ContentReads, two_texts, with_nodes, BlockReads, DocumentReads, NodeFormat, DocumentFormat, Head, node, Children, no_children, children, document, Nodes, none, first, gap_nodes, newline_gap, GapItems, before_block, at_start, past_node, Settings, indentation, or_empty_document, newline_at_end, KeptBeforeBlock, last_place, without_bom, TypeTexts, with_type_texts, AreRespelledNodes, SpacedLines, SpacesTexts, IsSpacedContent, IsSpacedBraced, SpacesContent, AreSpacedNodes, NodeTexts, line_of, has_block, Before}
 use Rattle.kdl_entry.specs.Data as data'
 use Rattle.kdl_grammar.specs.Data as nodes'
 use Rattle.kdl_grammar.specs.Print.{trailing_text}
@@ -7,6 +7,7 @@ use Rattle.kdl_grammar.specs.ReadsBack.{name_text, IsGapBefore, BeforeTerminator
 use Rattle.kdl_grammar.proofs.ReadingBack.Composing.{block_reads, ends_before}
 use Rattle.kdl_layout.proofs.Texts.{name_of}
 use Rattle.kdl_layout.proofs.Keeping.KeptPlaces.{indentation_gap, Tail, tail_of, tail_spaced, LineEnd, line_end_of, line_terminator, last_text}
+use Rattle.kdl_layout.proofs.Keeping.Blocks.{Braces, together, apart, block_texts, no_newline}
 use Rattle.kdl_layout.proofs.Respelling.Spellings.{string_before}
 use Rattle.kdl_layout.proofs.Respelling.Kept.{TypeSpaces}
 use Rattle.kdl_layout.proofs.Respelling.Written.{IsTypedLine, NameReads, NameReadsIf}
@@ -36,11 +37,11 @@ place_joined : (l s c b r : Text) → (l ++ s) ++ (((c ++ (10 ∷ [])) ++ b) ++ 
 place_joined l s c b r = simp append_assoc
 
 -- nodes that are laid out, with their spellings or not
-abbrev pub AreLined : ℕ → Settings → ℕ → Before → Nodes → Nodes → Type 0
-AreLined number s level b ns xs = (keep : Keeping) × SpelledNodes number s keep level b ns xs
+abbrev pub AreLined : Bool → ℕ → Settings → ℕ → Before → Nodes → Nodes → Type 0
+AreLined compact number s level b ns xs = (keep : Keeping) × SpelledNodes compact number s keep level b ns xs
 
-pub lined : (number : ℕ) (s : Settings) (keep : Keeping) (level : ℕ) (b : Before) (ns ms xs : Nodes) → AreSpacedNodes number s level b ns ms → AreRespelledNodes keep s ns ms xs → AreLined number s level b ns xs
-lined number s keep level b ns ms xs f r = (keep, spelled_nodes number s keep level b ns ms xs f r)
+pub lined : (compact : Bool) (number : ℕ) (s : Settings) (keep : Keeping) (level : ℕ) (b : Before) (ns ms xs : Nodes) → AreSpacedNodes compact number s level b ns ms → AreRespelledNodes keep s ns ms xs → AreLined compact number s level b ns xs
+lined compact number s keep level b ns ms xs f r = (keep, spelled_nodes compact number s keep level b ns ms xs f r)
 
 -- the place before the terminator
 before_end : (k : Children) {l space c : Text} → Tail (last_place (has_block k)) l → LineEnd space c → (r : Text) → BeforeTerminator k (l ++ (space ++ (c ++ (10 ∷ r)))) (c ++ (10 ∷ r))
@@ -102,40 +103,46 @@ module _ (number : ℕ) (s : Settings) (ok : list_all is_space s.indent ≡ true
       reads line.is (line_head level (has_block k) b f t w line.kept h' a n line.spaces line.untyped es) (line_children level k b f t w line.kept x) (line_end level (has_block k) b f t w line.kept k refl Q)
 
   -- a block whose nodes end by themselves
-  pub braced_reads : (level : ℕ) (olds : Nodes) (f : DocumentFormat) (b : Before) (g : Option DocumentFormat) (at : SourceSpan) (ms : Nodes) → IsSpacedBraced number s level olds f b g → NodesRead Anything ms → BlockReads (document g at ms)
-  braced_reads level olds f b g at ms (x, y, c, e) d =
-      let ind = indentation s level in
-      subst (λ (z : Option DocumentFormat). BlockReads (document z at ms)) (sym e)
-      (block (content_with ms
+  block_with : (level : ℕ) {compact : Bool} {olds : Nodes} {x y : Text} (f : DocumentFormat) (b : Before) {g : DocumentFormat} (at : SourceSpan) (ms : Nodes) → Braces (indentation s level) compact olds x y g → SpacesContent number s (level + 1) olds f b x y
+      → NodesRead Anything ms → BlockReads (document (Some g) at ms)
+  block_with level f b at ms together c d = block (content_with ms (λ r v xs z d. d) (all_end _ d) (λ r p. no_gap))
+  block_with level {x = x} {y = y} f b at ms (apart {compact = compact} {ns = olds}) c d =
+      block (content_with ms
       (λ r v xs z d. gap_nodes (newline_gap (lines_gap s ok number (level + 1) at_start b (without_bom f.leading) x c.leading no_gap)) d)
       (all_end _ d)
-      (λ r p. rw (trailing_joined y (newline_if_none olds) ind r) (lines_gap s ok number (level + 1) c.last c.after_it f.trailing y c.trailing (empty_gap olds (indentation_gap s ok level no_gap))))))
+      (λ r p. rw (trailing_joined y (newline_at_end compact olds) (indentation s level) r) (lines_gap s ok number (level + 1) c.last c.after_it f.trailing y c.trailing (empty_gap compact olds (indentation_gap s ok level no_gap)))))
+
+  pub braced_reads : (compact : Bool) (level : ℕ) (olds : Nodes) (f : DocumentFormat) (b : Before) (g : Option DocumentFormat) (at : SourceSpan) (ms : Nodes) → IsSpacedBraced compact number s level olds f b g → NodesRead Anything ms → BlockReads (document g at ms)
+  braced_reads compact level olds f b g at ms (x, y, c, e) d =
+      subst (λ (z : Option DocumentFormat). BlockReads (document z at ms)) (sym e) (block_with level f b at ms (block_texts compact (indentation s level) olds x y) c d)
 
   -- a document whose own texts are laid out
   content_last : {ns : Nodes} (q y : Text) → (q ≡ [] → y ≡ []) → NodesRead (last_rests q TextEnd) ns → NodesRead (last_rests (y ++ []) TextEnd) ns
   content_last {ns} [] y h x = subst (λ (z : Text). NodesRead (last_rests (z ++ []) TextEnd) ns) (sym (h refl)) x
   content_last (c ∷ q) y h x = all_end _ x
 
-  content_laid : (level : ℕ) (b last after : Before) (q' q x y : Text) → SpacedLines number s level at_start q' x b → SpacedLines number s level last q y after → {l : Text} (ns : Nodes) → ContentReads TextEnd l q ns
-      → ContentReads TextEnd x (y ++ newline_if_none ns) ns
-  content_laid level b last after q' q x y k m none d =
-      two_texts (lines_add level at_start b q' x k) (λ r p. rw (append_assoc y (10 ∷ []) r) (lines_gap s ok number level last after q y m (newline_gap no_gap)))
-  content_laid level b last after q' q x y k m (first n ns) (with_nodes a z g) =
+  content_laid : (compact : Bool) (level : ℕ) (b last after : Before) (q' q x y : Text) → SpacedLines number s level at_start q' x b → SpacedLines number s level last q y after → {l : Text} (ns : Nodes) → ContentReads TextEnd l q ns
+      → ContentReads TextEnd x (y ++ newline_at_end compact ns) ns
+  content_laid compact level b last after q' q x y k m none d =
+      two_texts (lines_add level at_start b q' x k) (λ r p. rw (append_assoc y (newline_at_end compact none) r) (lines_gap s ok number level last after q y m (empty_gap compact none no_gap)))
+  content_laid compact level b last after q' q x y k m (first n ns) (with_nodes a z g) =
+      let laid : ContentReads TextEnd x (y ++ []) (first n ns) =
       with_nodes (lines_add level at_start b q' x k)
       (content_last q y (λ e. nothing_kept number s level last after [] y GapItems.none (subst (λ (u : Text). SpacedLines number s level last u y after) e m)) z)
-      (λ r p. rw (append_assoc y [] r) (lines_gap s ok number level last after q y m no_gap))
+      (λ r p. rw (append_assoc y [] r) (lines_gap s ok number level last after q y m no_gap)) in
+      rw (no_newline compact n ns) laid
 
   trailing_is : (o : Option DocumentFormat) → (or_empty_document o).trailing ≡ trailing_text o
   trailing_is None = refl
   trailing_is (Some f) = refl
 
-  pub document_reads : (level : ℕ) (b : Before) (o g : Option DocumentFormat) (at : SourceSpan) (ns : Nodes) → IsSpacedContent number s level ns (or_empty_document o) b g → DocumentReads (document o at ns) → DocumentReads (document g at ns)
-  document_reads level b o g at ns (x, y, c, e) d =
+  pub document_reads : (compact : Bool) (level : ℕ) (b : Before) (o g : Option DocumentFormat) (at : SourceSpan) (ns : Nodes) → IsSpacedContent compact number s level ns (or_empty_document o) b g → DocumentReads (document o at ns) → DocumentReads (document g at ns)
+  document_reads compact level b o g at ns (x, y, c, e) d =
       subst (λ (z : Option DocumentFormat). DocumentReads (document z at ns)) (sym e) (DocumentReads.no_bom (of_old d))
     where
       trailing : SpacedLines number s level c.last (trailing_text o) y c.after_it
       trailing = subst (λ (u : Text). SpacedLines number s level c.last u y c.after_it) (trailing_is o) c.trailing
 
-      of_old : DocumentReads (document o at ns) → ContentReads TextEnd x (y ++ newline_if_none ns) ns
-      of_old (DocumentReads.no_bom d) = content_laid level b c.last c.after_it (without_bom (or_empty_document o).leading) (trailing_text o) x y c.leading trailing ns d
-      of_old (DocumentReads.after_bom e d) = content_laid level b c.last c.after_it (without_bom (or_empty_document o).leading) (trailing_text o) x y c.leading trailing ns d
+      of_old : DocumentReads (document o at ns) → ContentReads TextEnd x (y ++ newline_at_end compact ns) ns
+      of_old (DocumentReads.no_bom d) = content_laid compact level b c.last c.after_it (without_bom (or_empty_document o).leading) (trailing_text o) x y c.leading trailing ns d
+      of_old (DocumentReads.after_bom e d) = content_laid compact level b c.last c.after_it (without_bom (or_empty_document o).leading) (trailing_text o) x y c.leading trailing ns d

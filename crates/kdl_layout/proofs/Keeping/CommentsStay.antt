@@ -1,5 +1,5 @@
 -- Layout loses no comment: what a document holds of them is, each as it is on a line, what is held by the document that is laid in the printed text.
-use Rattle.kdl_layout.proofs.Common.{◌≡◌, ℕ, ◌+◌, Bool, true, false, List, [], ◌∷◌, ◌++◌, map, refl, sym, ap, subst, ◌∙◌, Option, Some, append_assoc, append-nil, None, ◌||◌, and_parts, map-append, list_all, ◌&&◌, Text, ValueEnd, LineSpace, SourceSpan, print_identifier, print_type, print_key, Terminator, Gap, no_gap, line_space, print_pieces, print_node, print_tail, print_nodes, print_document, print_piece, NodeFormat, DocumentFormat, Head, Node, node, Children, no_children, children, Document, document, Nodes, none, first, node_data, children_data, nodes_data, document_data, BeforeChildren, Item, before_block, GapItems, PlaceItems, Place, before_entry, on_line, tail, AreNodeSpaces, InPlace, NodeItems, of_node, ChildrenItems, NodesItems, DocumentItems, of_document, EntriesItems, Settings, indentation, or_empty, or_empty_document, newline_if_none, in_braces, NodeKeepsNone, ChildrenKeepNone, NodesKeepNone, DocumentKeepsNone, last_place, without_bom, KeptEnd, WrittenUnless, entry_leading, at_start, past_node, Keeping, keeps_texts, EntriesKeepNone, braces_in_line, braces_on_line, in_one_line, is_on_one_line, nodes_in_line, nodes_on_line, one_lined_children, one_lined_document, one_lined_node, one_lined_nodes, end_on_line, head_on_line, node_in_line, TypeTexts, node_type_texts, with_type_texts, IsSpelling, SpacesTexts, NodeTexts, line_of, content_of, has_block, IsWellFormedNode, AreWellFormedChildren, AreWellFormed, only_spaces, no_line_comment, punctuation_end, Identifier, Entry, empty_format, Value, Before, is_space}
+use Rattle.kdl_layout.proofs.Common.{◌≡◌, ℕ, ◌+◌, Bool, true, false, List, [], ◌∷◌, ◌++◌, map, refl, sym, ap, subst, ◌∙◌, Option, Some, append_assoc, append-nil, None, ◌||◌, and_parts, map-append, list_all, ◌&&◌, Text, ValueEnd, LineSpace, SourceSpan, print_identifier, print_type, print_key, Terminator, Gap, no_gap, line_space, print_pieces, print_node, print_tail, print_nodes, print_document, print_piece, NodeFormat, DocumentFormat, Head, Node, node, Children, no_children, children, Document, document, Nodes, none, first, node_data, children_data, nodes_data, document_data, BeforeChildren, Item, before_block, GapItems, PlaceItems, Place, before_entry, on_line, tail, AreNodeSpaces, InPlace, NodeItems, of_node, ChildrenItems, NodesItems, DocumentItems, of_document, EntriesItems, Settings, indentation, or_empty, or_empty_document, NodeKeepsNone, ChildrenKeepNone, NodesKeepNone, DocumentKeepsNone, last_place, without_bom, KeptEnd, WrittenUnless, entry_leading, at_start, past_node, Keeping, keeps_texts, EntriesKeepNone, braces_in_line, braces_on_line, in_one_line, is_on_one_line, nodes_in_line, nodes_on_line, one_lined_children, one_lined_document, one_lined_node, one_lined_nodes, end_on_line, head_on_line, node_in_line, TypeTexts, node_type_texts, with_type_texts, IsSpelling, SpacesTexts, NodeTexts, line_of, block_of, content_of, newline_at_end, has_block, IsWellFormedNode, AreWellFormedChildren, AreWellFormed, only_spaces, no_line_comment, punctuation_end, Identifier, Entry, empty_format, Value, Before, is_space}
 use Rattle.kdl_entry.specs.Places.{span_of}
 use Rattle.kdl_grammar.specs.Laid.{node_format, content_span, laid_node, LaidChildren, no_block, a_block, LaidNodes, no_node, a_node, LaidContent, without_nodes, with_nodes, LaidDocument, LaidDocumentAs, LaidEntries, no_entry, an_entry}
 use Rattle.kdl_grammar.specs.Print.{print_head, end_text}
@@ -7,7 +7,8 @@ use Rattle.kdl_grammar.proofs.Reading.Complete.OneLaid.{one_laid_document}
 use Rattle.kdl_layout.specs.Comments.{ItemsIn, block, EndItems, KeyItems, TypeItems, InsideItems}
 use Rattle.kdl_layout.proofs.Keeping.InnerItems.{AreInside, HoldInside, HoldsInside, entries_hold, head_type_stays, inside_stays, no_type_items, type_nothing}
 use Rattle.kdl_layout.proofs.Spacing.Lines.{before_front, lines_front}
-use Rattle.kdl_layout.proofs.Keeping.GapFronts.{Front, nothing, joined, alone, here, newline, newline_if, indented, gap_without_bom}
+use Rattle.kdl_layout.proofs.Keeping.Blocks.{block_fronts, block_texts}
+use Rattle.kdl_layout.proofs.Keeping.GapFronts.{Front, nothing, joined, alone, here, newline_if, indented, gap_without_bom}
 use Rattle.kdl_layout.proofs.OneLine.Same.{one_or_more}
 use Rattle.kdl_layout.proofs.Respelling.Written.{IsWrittenNode, IsWrittenDocument, written_head, IsWrittenHead, Inside, IsGap, IsInside, NameReads, NameReadsIf, IsWrittenEntry, AreWrittenEntries, printed_front}
 use Rattle.kdl_layout.proofs.Keeping.KeptPlaces.{tail_ends, tail_spaced, line_end_of, line_terminator, last_text, last_ends, Tail, kept_in, kept_end, kept_last, KeptIn, place_stays}
@@ -225,7 +226,7 @@ module _ (inner : Bool) (number : ℕ) (s : Settings) (with : s.no_comments ≡ 
       → inner ≡ true → HoldInside s h.entries h'.entries
   head_holds no_keep spelling all {h = h} {h' = h'} f o on = entries_hold s with spelling h.entries f.laid.entries h'.entries no_keep (all on) f.spaced.entries f.respelled.entries o
 
-  pub nodes_line : (no_keep : s.entry_autoformate_keep ≡ false) (spelling : Keeping) (all : inner ≡ true → keeps_texts spelling ≡ true) (depth : ℕ) {level : ℕ} {b : Before} {ns xs : Nodes} → nodes_on_line ns ≡ true → SpelledNodes number s spelling level b ns xs → NodesKeepNone ns → AreWellFormed (nodes_data ns)
+  pub nodes_line : (no_keep : s.entry_autoformate_keep ≡ false) (spelling : Keeping) (all : inner ≡ true → keeps_texts spelling ≡ true) (depth : ℕ) {compact : Bool} {level : ℕ} {b : Before} {ns xs : Nodes} → nodes_on_line ns ≡ true → SpelledNodes compact number s spelling level b ns xs → NodesKeepNone ns → AreWellFormed (nodes_data ns)
       → {is : List Item} → NodesItems inner ns is → (q : Text) → LineNodes inner whole (print_nodes (nodes_in_line xs) depth ++ (125 ∷ q)) (125 ∷ q) (map on_line is)
   nodes_line no_keep spelling all depth h nodeless o w NodesItems.no_node q = record { tree = none; laid = no_node; items = NodesItems.no_node }
   nodes_line no_keep spelling all depth h (one_more (spelled f (spelled_block c at nodes)) p fs) o w i q = absurd cc
@@ -267,15 +268,13 @@ module _ (h : Head) (before : Text) (k : NodeTexts) (x : TypeTexts) (line : h.fo
   plain_text : (depth : ℕ) (r : Text) → print_tail h no_children depth ++ r ≡ end_of r
   plain_text depth r = rw line (end_joined k.last k.space k.comment k.following r)
 
-  block_text : (f : Option DocumentFormat) (span : SourceSpan) (ns ms : Nodes) (a b : Text) (depth : ℕ) (r : Text) → f ≡ Some (in_braces before (content_of ns a b))
-      → print_tail h (children (document f span ms)) depth ++ r
-      ≡ k.before_block ++ (32 ∷ 123 ∷ ((10 ∷ a) ++ (print_nodes ms (depth + 1) ++ ((b ++ newline_if_none ns ++ before) ++ (125 ∷ end_of r)))))
-  block_text f span ns ms a b depth r e =
+  block_text : (f : Option DocumentFormat) (span : SourceSpan) (ms : Nodes) (g : DocumentFormat) (depth : ℕ) (r : Text) → f ≡ Some g
+      → print_tail h (children (document f span ms)) depth ++ r ≡ k.before_block ++ (32 ∷ 123 ∷ (g.leading ++ (print_nodes ms (depth + 1) ++ (g.trailing ++ (125 ∷ end_of r)))))
+  block_text f span ms g depth r e =
       let end = k.last ++ k.space ++ (k.comment ++ (10 ∷ [])) ++ k.following in
       let n = print_nodes ms (depth + 1) in
-      let following = b ++ newline_if_none ns ++ before in
       rw (e, line, ← end_joined k.last k.space k.comment k.following r)
-      (braces_joined k.before_block ((10 ∷ a) ++ n ++ following) (125 ∷ end) r ∙ ap (λ (t : Text). k.before_block ++ (32 ∷ 123 ∷ t)) (content_joined (10 ∷ a) n following (125 ∷ (end ++ r))))
+      (braces_joined k.before_block (g.leading ++ n ++ g.trailing) (125 ∷ end) r ∙ ap (λ (t : Text). k.before_block ++ (32 ∷ 123 ∷ t)) (content_joined g.leading n g.trailing (125 ∷ (end ++ r))))
 
   -- a block on one line
   line_text : (span : SourceSpan) (ms : Nodes) (depth : ℕ) (r : Text) → print_tail h (children (document (Some braces_in_line) span ms)) depth ++ r ≡ k.before_block ++ (32 ∷ 123 ∷ (print_nodes ms (depth + 1) ++ (125 ∷ end_of r)))
@@ -346,8 +345,8 @@ content_laid {inner} {whole} {s} {r} {g} {is} {js} x f =
 node_same : (p a b c d e f : List Item) → ((p ++ (map on_line a ++ [])) ++ map on_line b ++ map on_line c ++ map on_line d ++ map on_line e ++ []) ++ map on_line f ≡ p ++ map on_line (a ++ b ++ c ++ d ++ e ++ f)
 node_same p a b c d e f = simp (map-append, append_assoc, append-nil)
 
-block_lists : (p a b c : List Item) → p ++ (map on_line a ++ map on_line b ++ (map on_line c ++ [] ++ [])) ≡ p ++ map on_line (a ++ b ++ c)
-block_lists p a b c = simp (map-append, append_assoc, append-nil)
+block_lists : (p a b c : List Item) → p ++ (map on_line a ++ map on_line b ++ map on_line c) ≡ p ++ map on_line (a ++ b ++ c)
+block_lists p a b c = simp (map-append, append_assoc)
 
 line_lists : (p a b c : List Item) → a ≡ [] → c ≡ [] → map on_line p ++ (map on_line b ++ []) ≡ map on_line (p ++ (a ++ b ++ c))
 line_lists p a b c e f = rw (e, f) (simp (map-append, append-nil))
@@ -355,7 +354,7 @@ line_lists p a b c e f = rw (e, f) (simp (map-append, append-nil))
 content_lists : (a b c : List Item) → map on_line a ++ map on_line b ++ (map on_line c ++ []) ≡ map on_line (a ++ b ++ c)
 content_lists a b c = simp (map-append, append_assoc, append-nil)
 
-module _ (inner : Bool) (number : ℕ) (s : Settings) (ok : list_all is_space s.indent ≡ true) (with : s.no_comments ≡ false) (keep : Bool) (whole : Text) (no_keep : s.entry_autoformate_keep ≡ false) (spelling : Keeping) (all : inner ≡ true → keeps_texts spelling ≡ true) where
+module _ (inner compact : Bool) (number : ℕ) (s : Settings) (ok : list_all is_space s.indent ≡ true) (with : s.no_comments ≡ false) (keep : Bool) (whole : Text) (no_keep : s.entry_autoformate_keep ≡ false) (spelling : Keeping) (all : inner ≡ true → keeps_texts spelling ≡ true) where
   -- what is kept before a terminator, before that
   last_stands : (has : Bool) (f : NodeFormat) (t : NodeTexts) → Tail (last_place has) t.last → KeptEnd s.no_comments f.terminator t.space t.comment → (r : Text)
       → InPlace (last_place has) ((t.last ++ t.space) ++ ((t.comment ++ (10 ∷ [])) ++ r)) ((t.comment ++ (10 ∷ [])) ++ r)
@@ -364,7 +363,7 @@ module _ (inner : Bool) (number : ℕ) (s : Settings) (ok : list_all is_space s.
       (subst (λ (x : Text). InPlace (last_place has) (t.last ++ (t.space ++ (t.comment ++ (10 ∷ r)))) x) (sym (append_assoc t.comment (10 ∷ []) r)) (last_text has k (line_end_of s.no_comments f.terminator t.space t.comment e) r))
 
   mutual
-    children_laid : {level : ℕ} (depth : ℕ) (b : Before) (h : Head) (f : NodeFormat) (t : NodeTexts) (x : TypeTexts) {k l : Children} → h.format ≡ Some (with_type_texts x (line_of (indentation s level) t)) → SpelledChildren number s spelling level k l
+    children_laid : {level : ℕ} (depth : ℕ) (b : Before) (h : Head) (f : NodeFormat) (t : NodeTexts) (x : TypeTexts) {k l : Children} → h.format ≡ Some (with_type_texts x (line_of (indentation s level) t)) → SpelledChildren compact number s spelling level k l
         → ChildrenKeepNone k → AreWellFormedChildren (children_data k) → SpacesTexts number s level (has_block k) b f t → {is js : List Item} → ChildrenItems inner f.before_children k is
         → ItemsIn (PlaceItems (last_place (has_block k)) f.before_terminator) js → (r : Text)
         → ChildrenLaid inner whole (print_tail h (one_lined_children keep k l) depth ++ r) ((t.comment ++ (10 ∷ [])) ++ (t.following ++ r)) (map on_line is) (map on_line js)
@@ -385,11 +384,14 @@ module _ (inner : Bool) (number : ℕ) (s : Settings) (ok : list_all is_space s.
         let before = kept_in s.no_comments with f.before_children t.before_block kept.before_block i in
         let rest = t.following ++ r in
         let after = (t.last ++ t.space) ++ ((t.comment ++ (10 ∷ [])) ++ rest) in
-        let following = c.1 ++ newline_if_none ns ++ indentation s level in
+        let texts = block_of compact (indentation s level) ns c.0 c.1 in
+        let fronts = block_fronts s ok level (block_texts compact (indentation s level) ns c.0 c.1)
+        (lines_front s ok with number (level + 1) at_start b' (without_bom (or_empty_document g).leading) c.0 c.2.leading ia)
+        (lines_front s ok with number (level + 1) c.2.last c.2.after_it (or_empty_document g).trailing c.1 c.2.trailing id) in
         let old = document g span ns in
         let laid' = document g' span' ns' in
-        let x = nodes_laid (depth + 1) nodes o v ib (joined newline (lines_front s ok with number (level + 1) at_start b' (without_bom (or_empty_document g).leading) c.0 c.2.leading ia)) (following ++ (125 ∷ after)) in
-        let y = content_laid x (joined (joined (lines_front s ok with number (level + 1) c.2.last c.2.after_it (or_empty_document g).trailing c.1 c.2.trailing id) (newline_if ns)) (indented s ok level)) in
+        let x = nodes_laid (depth + 1) nodes o v ib fronts.leading (texts.trailing ++ (125 ∷ after)) in
+        let y = content_laid x fronts.trailing in
         one_or_more (λ (z : Document). ChildrenLaid inner whole (print_tail h (children z) depth ++ r) ((t.comment ++ (10 ∷ [])) ++ rest) (map on_line (is ++ (a ++ e' ++ d))) (map on_line ks)) (keep && is_on_one_line old) (in_one_line laid') (one_lined_document keep old laid')
         (λ on. let w = (and_parts (braces_on_line g) (nodes_on_line ns) (and_parts keep (is_on_one_line old) on).1) in
         let n = braces_nothing g w.0 ia id in
@@ -397,7 +399,7 @@ module _ (inner : Bool) (number : ℕ) (s : Settings) (ok : list_all is_space s.
         let l = content_of_nodes whole (print_nodes (nodes_in_line ns') (depth + 1) ++ (125 ∷ after)) (125 ∷ after) [] m.laid m.items nothing in
         rw (line_text h (indentation s level) t types line span' (nodes_in_line ns') depth r)
         (block_laid l.tree l.laid (subst (λ (z : List Item). ChildrenItems inner (t.before_block ++ (32 ∷ [])) (children l.tree) z) (line_lists is a e' d n.0 n.1) (block (ItemsIn.items before.spaced) l.items))))
-        (λ on. rw (block_text h (indentation s level) t types line g' span' ns (one_lined_nodes keep ns ns') c.0 c.1 depth r c.3)
+        (λ on. rw (block_text h (indentation s level) t types line g' span' (one_lined_nodes keep ns ns') texts depth r c.3)
         (block_laid y.tree y.laid
         (subst (λ (l : List Item). ChildrenItems inner (t.before_block ++ (32 ∷ [])) (children y.tree) l) (block_lists (map on_line is) a e' d ∙ sym (map-append on_line is (a ++ e' ++ d))) (block (ItemsIn.items before.spaced) y.items))))
       where
@@ -419,7 +421,7 @@ module _ (inner : Bool) (number : ℕ) (s : Settings) (ok : list_all is_space s.
             }
 
     -- a node after a gap
-    node_laid : (depth : ℕ) {level : ℕ} {before : Before} {n n' : Node} → SpelledNode number s spelling level before n n' → NodeKeepsNone n → IsWellFormedNode (node_data n) → {is : List Item} → NodeItems inner n is
+    node_laid : (depth : ℕ) {level : ℕ} {before : Before} {n n' : Node} → SpelledNode compact number s spelling level before n n' → NodeKeepsNone n → IsWellFormedNode (node_data n) → {is : List Item} → NodeItems inner n is
         → {p : Text} {ps : List Item} → Front p ps → (r : Text) → NodeLaid inner whole (p ++ (print_node (one_lined_node keep n n') depth ++ r)) r (ps ++ map on_line is)
     node_laid depth (spelled {level = level} {b = before} {h = h} {x = h'} {k = k} {l = k'} head kids) flags v (of_node {a = a} {b = b} {c = ci} {d = d} {e = e} {f = g} ia (ts, es, it, ies, ib) ic id ie ig) {p} {ps} front r =
         let f = written_head s no_keep spelling level (has_block k) before h h' k head flags.0 v in
@@ -461,7 +463,7 @@ module _ (inner : Bool) (number : ℕ) (s : Settings) (ok : list_all is_space s.
           same = node_same ps a b ci d e g;
         })
 
-    nodes_laid : (depth : ℕ) {level : ℕ} {before : Before} {ns ns' : Nodes} → SpelledNodes number s spelling level before ns ns' → NodesKeepNone ns → AreWellFormed (nodes_data ns) → {is : List Item} → NodesItems inner ns is
+    nodes_laid : (depth : ℕ) {level : ℕ} {before : Before} {ns ns' : Nodes} → SpelledNodes compact number s spelling level before ns ns' → NodesKeepNone ns → AreWellFormed (nodes_data ns) → {is : List Item} → NodesItems inner ns is
         → {p : Text} {ps : List Item} → Front p ps → (t : Text) → NodesLaid inner whole (p ++ (print_nodes (one_lined_nodes keep ns ns') depth ++ t)) t (ps ++ map on_line is)
     nodes_laid depth nodeless o v NodesItems.no_node {p} {ps} front t =
         record { tree = none; pending = p; own = []; later = ps; laid = no_node; items = NodesItems.no_node; front = front; same = sym (append-nil ps) }
@@ -482,21 +484,21 @@ module _ (inner : Bool) (number : ℕ) (s : Settings) (ok : list_all is_space s.
         })
 
   -- the content of a document that is laid out
-  document_content : (level depth : ℕ) (d d' : Document) (is : List Item) → DocumentItems inner d is → SpelledDocument number s spelling level d d' → DocumentKeepsNone d → AreWellFormed (document_data d)
+  document_content : (level depth : ℕ) (d d' : Document) (is : List Item) → DocumentItems inner d is → SpelledDocument compact number s spelling level d d' → DocumentKeepsNone d → AreWellFormed (document_data d)
       → ContentLaid inner whole (print_document (one_lined_document keep d d') depth) [] (map on_line is)
   document_content level depth (document f span ns) (document f' span' ns') _ (of_document {a = a} {b = b} {c = d} ia ib id) (before, c, same, nodes) o v =
-      let following = c.1 ++ newline_if_none ns in
+      let following = c.1 ++ newline_at_end compact ns in
       let x = nodes_laid depth nodes o v ib (lines_front s ok with number level at_start before (without_bom (or_empty_document f).leading) c.0 c.2.leading ia) (following ++ []) in
-      let y = content_laid x (joined (lines_front s ok with number level c.2.last c.2.after_it (or_empty_document f).trailing c.1 c.2.trailing id) (newline_if ns)) in
+      let y = content_laid x (joined (lines_front s ok with number level c.2.last c.2.after_it (or_empty_document f).trailing c.1 c.2.trailing id) (newline_if compact ns)) in
       subst (λ (l : List Item). ContentLaid inner whole (print_document (document f' span' (one_lined_nodes keep ns ns')) depth) [] l) (content_lists a b d)
       (subst (λ (t : Text). ContentLaid inner whole t [] (map on_line a ++ map on_line b ++ (map on_line d ++ []))) (document_joined f' ns' c.3) y)
     where
-      document_joined : (f' : Option DocumentFormat) (ns' : Nodes) → f' ≡ Some (content_of ns c.0 c.1)
-          → c.0 ++ (print_nodes (one_lined_nodes keep ns ns') depth ++ ((c.1 ++ newline_if_none ns) ++ [])) ≡ print_document (document f' span' (one_lined_nodes keep ns ns')) depth
+      document_joined : (f' : Option DocumentFormat) (ns' : Nodes) → f' ≡ Some (content_of compact ns c.0 c.1)
+          → c.0 ++ (print_nodes (one_lined_nodes keep ns ns') depth ++ ((c.1 ++ newline_at_end compact ns) ++ [])) ≡ print_document (document f' span' (one_lined_nodes keep ns ns')) depth
       document_joined f' ns' e = rw e (simp (append_assoc, append-nil))
 
   -- a node that is laid out, as the content of a document
-  node_content : (level depth : ℕ) (before : Before) (n n' : Node) (is : List Item) → NodeItems inner n is → SpelledNode number s spelling level before n n' → NodeKeepsNone n → IsWellFormedNode (node_data n)
+  node_content : (level depth : ℕ) (before : Before) (n n' : Node) (is : List Item) → NodeItems inner n is → SpelledNode compact number s spelling level before n n' → NodeKeepsNone n → IsWellFormedNode (node_data n)
       → ContentLaid inner whole (print_node (one_lined_node keep n n') depth) [] (map on_line is)
   node_content level depth before n n' is i f o v =
       let x = node_laid depth f o v i nothing [] in
@@ -505,17 +507,17 @@ module _ (inner : Bool) (number : ℕ) (s : Settings) (ok : list_all is_space s.
       (content_of_nodes whole (print_node (one_lined_node keep n n') depth ++ []) [] x.pending (x.laid no_node) (NodesItems.a_node x.items NodesItems.no_node) x.front))
 
 -- each item of the document is one of the laid text, as it is on a line, in the same order
-pub comments_stay : (inner : Bool) (number : ℕ) (s : Settings) → list_all is_space s.indent ≡ true → s.no_comments ≡ false → (keep : Bool) (level depth : ℕ) → (d d' e : Document) → (is : List Item)
-    → DocumentItems inner d is → {kept : Keeping} → IsWrittenDocument number s kept level d d' → (inner ≡ true → keeps_texts kept ≡ true) → LaidDocument e (print_document (one_lined_document keep d d') depth) → DocumentItems inner e (map on_line is)
-comments_stay inner number s ok with keep level depth d d' e is i {kept} f all there =
+pub comments_stay : (inner compact : Bool) (number : ℕ) (s : Settings) → list_all is_space s.indent ≡ true → s.no_comments ≡ false → (keep : Bool) (level depth : ℕ) → (d d' e : Document) → (is : List Item)
+    → DocumentItems inner d is → {kept : Keeping} → IsWrittenDocument compact number s kept level d d' → (inner ≡ true → keeps_texts kept ≡ true) → LaidDocument e (print_document (one_lined_document keep d d') depth) → DocumentItems inner e (map on_line is)
+comments_stay inner compact number s ok with keep level depth d d' e is i {kept} f all there =
     let t = print_document (one_lined_document keep d d') depth in
-    let x = document_content inner number s ok with keep t f.no_keep kept all level depth d d' is i f.laid f.unflagged f.fit in
+    let x = document_content inner compact number s ok with keep t f.no_keep kept all level depth d d' is i f.laid f.unflagged f.fit in
     subst (λ (y : Document). DocumentItems inner y (map on_line is)) (one_laid_document t x.tree e (LaidDocumentAs.no_bom x.laid) there) x.items
 
 -- the same for a node that is printed alone
-pub node_comments_stay : (inner : Bool) (number : ℕ) (s : Settings) → list_all is_space s.indent ≡ true → s.no_comments ≡ false → (keep : Bool) (level depth : ℕ) → (before : Before) (n n' : Node) → (e : Document) → (is : List Item)
-    → NodeItems inner n is → {kept : Keeping} → IsWrittenNode number s kept level before n n' → (inner ≡ true → keeps_texts kept ≡ true) → LaidDocument e (print_node (one_lined_node keep n n') depth) → DocumentItems inner e (map on_line is)
-node_comments_stay inner number s ok with keep level depth before n n' e is i {kept} f all there =
+pub node_comments_stay : (inner compact : Bool) (number : ℕ) (s : Settings) → list_all is_space s.indent ≡ true → s.no_comments ≡ false → (keep : Bool) (level depth : ℕ) → (before : Before) (n n' : Node) → (e : Document) → (is : List Item)
+    → NodeItems inner n is → {kept : Keeping} → IsWrittenNode compact number s kept level before n n' → (inner ≡ true → keeps_texts kept ≡ true) → LaidDocument e (print_node (one_lined_node keep n n') depth) → DocumentItems inner e (map on_line is)
+node_comments_stay inner compact number s ok with keep level depth before n n' e is i {kept} f all there =
     let t = print_node (one_lined_node keep n n') depth in
-    let x = node_content inner number s ok with keep t f.no_keep kept all level depth before n n' is i f.laid f.unflagged f.fit in
+    let x = node_content inner compact number s ok with keep t f.no_keep kept all level depth before n n' is i f.laid f.unflagged f.fit in
     subst (λ (y : Document). DocumentItems inner y (map on_line is)) (one_laid_document t x.tree e (LaidDocumentAs.no_bom x.laid) there) x.items

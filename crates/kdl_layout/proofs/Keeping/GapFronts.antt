@@ -1,5 +1,5 @@
 -- Gaps that come before any other gap, with their items.
-use Rattle.kdl_layout.proofs.Common.{◌≡◌, ℕ, ◌==◌, Bool, true, false, List, [], ◌∷◌, ◌++◌, refl, sym, subst, append_assoc, append-nil, arith, nat_tests, list_all, if◌then◌else◌, Text, is_space, LineSpace, t_space, t_newline, token_det, Gap, no_gap, Nodes, first, Item, LineSpaceItems, GapItems, Settings, indentation, newline_if_none, without_bom, newline_gap}
+use Rattle.kdl_layout.proofs.Common.{◌≡◌, ℕ, ◌==◌, Bool, true, false, List, [], ◌∷◌, ◌++◌, refl, sym, subst, append_assoc, append-nil, arith, nat_tests, list_all, if◌then◌else◌, Text, is_space, LineSpace, t_space, t_newline, token_det, Gap, no_gap, Nodes, first, Item, LineSpaceItems, GapItems, Settings, indentation, newline_at_end, without_bom, newline_gap}
 use Rattle.kdl_entry.specs.Places.{Is}
 use Rattle.kdl_syntax.specs.Tokens.{t_bom}
 use Rattle.kdl_layout.proofs.Rewriting.BeforeNewlines.{a_newline}
@@ -33,9 +33,10 @@ here f r = record { is = f.gap no_gap; text = refl }
 pub newline : Front (10 ∷ []) []
 newline = record { gap = λ g. newline_gap g; items = λ {t} g. GapItems.space (LineSpaceItems.newline (a_newline t)) g }
 
-pub newline_if : (ns : Nodes) → Front (newline_if_none ns) []
-newline_if Nodes.none = newline
-newline_if (first n ns) = nothing
+pub newline_if : (compact : Bool) (ns : Nodes) → Front (newline_at_end compact ns) []
+newline_if true ns = nothing
+newline_if false Nodes.none = newline
+newline_if false (first n ns) = nothing
 
 pub indented : (s : Settings) → list_all is_space s.indent ≡ true → (level : ℕ) → Front (indentation s level) []
 indented s ok level = record { gap = λ g. indentation_gap s ok level g; items = λ g. spaces_before (indentation s level) (level_spaces s.indent ok level) g }

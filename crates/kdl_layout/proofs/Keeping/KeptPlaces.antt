@@ -1,5 +1,5 @@
 -- What is kept of comments may occur in the place in which it is written, and holds the items of its text.
-use Rattle.kdl_layout.proofs.Common.{◌≡◌, ℕ, zero, suc, Bool, true, false, List, [], ◌∷◌, ◌++◌, refl, sym, subst, ◌∙◌, map, ap, append-nil, map-append, both_true, list_all, repeat, Text, Star, plus, Ws, ValueEnd, LineComment, between, Terminator, Gap, Item, Place, PlaceItems, piece, line_end, EsclineItems, SpaceItems, takes_blocks, spaced, InPlace, tail, line_text, on_line, Settings, indentation, WrittenUnless, EndItems, ItemsIn, end_comment, end_space, last_place, KeptEnd, no_line_comment, is_between, end_slashdash, is_space}
+use Rattle.kdl_layout.proofs.Common.{◌≡◌, ℕ, zero, suc, Bool, true, false, List, [], ◌∷◌, ◌++◌, refl, sym, subst, ◌∙◌, map, ap, append-nil, map-append, both_true, list_all, repeat, Text, Star, plus, Ws, ValueEnd, LineComment, between, Terminator, Gap, Item, Place, PlaceItems, piece, line_end, EsclineItems, SpaceItems, takes_blocks, InPlace, tail, line_text, on_line, Settings, indentation, WrittenUnless, EndItems, ItemsIn, end_comment, end_space, last_place, KeptEnd, no_line_comment, is_between, end_slashdash, is_space}
 use Rattle.std.proofs.lemmas.List.Folds.{list_all-append}
 use Rattle.kdl_text.specs.Chars.{space as a_space}
 use Rattle.kdl_layout.specs.Items.{comment as a_comment}

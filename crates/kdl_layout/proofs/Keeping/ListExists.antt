@@ -39,7 +39,7 @@ module _ (s : Settings) (no_keep : s.entry_autoformate_keep ≡ false) (with : s
   trailing_has level ns f b t u k = kept_in s.no_comments with (GapItems f.trailing) (spaced_lines 0 (indentation s level) k.last f.trailing) u k.trailing.0
 
   mutual
-    has_items : (level : ℕ) (b : Before) (n n' : Node) → IsSpacedNode 0 s level b n n' → NodeKeepsNone n → (is : List Item) × NodeItems false n is
+    has_items : (level : ℕ) (b : Before) (n n' : Node) → IsSpacedNode false 0 s level b n n' → NodeKeepsNone n → (is : List Item) × NodeItems false n is
     has_items level b (node h k) (node h' k') (f, c) m =
         let (t, kept, line) = f.format in
         let g = or_empty h.format in
@@ -51,7 +51,7 @@ module _ (s : Settings) (no_keep : s.entry_autoformate_keep ≡ false) (with : s
         let z = kept_in s.no_comments with (GapItems g.trailing) (spaced_lines 0 (indentation s level) (past_node g.terminator) g.trailing) t.following kept.following.0 in
         (a.0 ++ es.0 ++ x.0 ++ d.0 ++ e.0 ++ z.0, of_node a.1 (no_type h es.1) x.1 d.1 e.1 z.1)
 
-    children_have : (level : ℕ) (place t : Text) (k k' : Children) → IsSpacedChildren 0 s level k k' → KeptBeforeBlock s (has_block k) place t → ChildrenKeepNone k → (is : List Item) × ChildrenItems false place k is
+    children_have : (level : ℕ) (place t : Text) (k k' : Children) → IsSpacedChildren false 0 s level k k' → KeptBeforeBlock s (has_block k) place t → ChildrenKeepNone k → (is : List Item) × ChildrenItems false place k is
     children_have level place t no_children k' c b m = ([], ChildrenItems.no_block)
     children_have level place t (children (document f span ns)) (children (document f' span' ns')) (b', c, same, nodes, fits) b m =
         let x = kept_in s.no_comments with (PlaceItems before_block place) tail t b in
@@ -61,7 +61,7 @@ module _ (s : Settings) (no_keep : s.entry_autoformate_keep ≡ false) (with : s
         (x.0 ++ (i.0 ++ y.0 ++ j.0), ChildrenItems.block x.1 (of_document i.1 y.1 j.1))
     children_have level place t (children (document f span ns)) no_children c b m = absurd c
 
-    nodes_have : (level : ℕ) (b : Before) (ns ns' : Nodes) → AreSpacedNodes 0 s level b ns ns' → NodesKeepNone ns → (is : List Item) × NodesItems false ns is
+    nodes_have : (level : ℕ) (b : Before) (ns ns' : Nodes) → AreSpacedNodes false 0 s level b ns ns' → NodesKeepNone ns → (is : List Item) × NodesItems false ns is
     nodes_have level b none ns' f m = ([], NodesItems.no_node)
     nodes_have level b (first n ns) (first n' ns') f m = let x = has_items level b n n' f.1 m.0 in let y = nodes_have level f.0 ns ns' f.3 m.1 in (x.0 ++ y.0, NodesItems.a_node x.1 y.1)
     nodes_have level b (first n ns) none f m = absurd f

@@ -1,8 +1,9 @@
 -- A block on one line is on one line again once it is laid out again.
-use Rattle.kdl_layout.proofs.Common.{◌≡◌, ℕ, zero, suc, ◌+◌, Bool, true, false, [], ◌∷◌, ◌++◌, refl, sym, ap, subst, ◌∙◌, Option, None, Some, ◌||◌, List, option_map, and_parts, both_true, list_all, ◌&&◌, not, is_some, if◌then◌else◌, Text, SourceSpan, no_line_comment, NodeFormat, DocumentFormat, Head, Node, node, Children, no_children, children, Document, document, Nodes, none, first, GapItems, before_block, PlaceItems, before_entry, tail, at_start, Keeping, keeps_texts, blank_lines, past_items, past_node, read, Settings, indentation, or_empty, or_empty_document, newline_if_none, in_braces, DocumentKeepsNone, NodeKeepsNone, with_keep_if, ItemsIn, KeptEnd, EndItems, WrittenUnless, entry_leading, is_kept_format, IsLaidDocument, IsLaidNode, braces_in_line, braces_on_line, head_on_line, in_one_line, is_end, is_on_one_line, line_on_line, node_in_line, nodes_in_line, nodes_on_line, one_lined_node, one_lined_children, one_lined_document, one_lined_nodes, entry_on_line, form_on_line, maybe_on_line, name_on_line, only_spaces, plain_line, no_newline, IsTypedFormat, KeptTypeTexts, TypeTexts, node_type_texts, KeptSpelling, IsRespelled, IsRespelledIf, text_before, KeptLeading, KeptLeadingIf, bare_inside, print_value, KeepsForm, KeptForm, entry_type_texts, HasSpellings, HasSpellingsIf, HasSpellingsUnless, IsRespelledEntry, AreRespelledEntries, Passes, PassesFormat, PassesNode, PassesNodes, SpacedLines, SpacesContent, SpacesTexts, IsSpacedBraced, IsSpacedLine, NodeTexts, AreFormattedEntries, IsFormattedEntry, following, Entry, EntryFormat, Identifier, unspelled, kept, with_keep, autoformatted, autoformatted_format, Before, is_space}
+use Rattle.kdl_layout.proofs.Common.{◌≡◌, ℕ, zero, suc, ◌+◌, Bool, true, false, [], ◌∷◌, ◌++◌, refl, sym, ap, subst, ◌∙◌, Option, None, Some, ◌||◌, List, option_map, and_parts, both_true, list_all, ◌&&◌, not, is_some, if◌then◌else◌, Text, SourceSpan, no_line_comment, NodeFormat, DocumentFormat, Head, Node, node, Children, no_children, children, Document, document, Nodes, none, first, GapItems, before_block, PlaceItems, before_entry, tail, at_start, Keeping, keeps_texts, blank_lines, past_items, past_node, read, Settings, indentation, or_empty, or_empty_document, newline_if_none, in_braces, block_of, content_of, without_bom, DocumentKeepsNone, NodeKeepsNone, with_keep_if, ItemsIn, KeptEnd, EndItems, WrittenUnless, entry_leading, is_kept_format, IsLaidDocument, IsLaidNode, braces_in_line, braces_on_line, head_on_line, in_one_line, is_end, is_on_one_line, line_on_line, node_in_line, nodes_in_line, nodes_on_line, one_lined_node, one_lined_children, one_lined_document, one_lined_nodes, entry_on_line, form_on_line, maybe_on_line, name_on_line, only_spaces, plain_line, no_newline, IsTypedFormat, KeptTypeTexts, TypeTexts, node_type_texts, KeptSpelling, IsRespelled, IsRespelledIf, text_before, KeptLeading, KeptLeadingIf, bare_inside, print_value, KeepsForm, KeptForm, entry_type_texts, HasSpellings, HasSpellingsIf, HasSpellingsUnless, IsRespelledEntry, AreRespelledEntries, Passes, PassesFormat, PassesNode, PassesNodes, SpacedLines, SpacesContent, SpacesTexts, IsSpacedBraced, IsSpacedLine, NodeTexts, AreFormattedEntries, IsFormattedEntry, following, Entry, EntryFormat, Identifier, unspelled, kept, with_keep, autoformatted, autoformatted_format, Before, is_space}
 use Rattle.kdl_layout.specs.OneLine.{maybe_form_on_line, spelling_on_line}
 use Rattle.kdl_layout.proofs.Rewriting.LinesAgain.{newline_items, spaces_items}
 use Rattle.kdl_layout.proofs.Keeping.GapFronts.{alone, joined, newline_if, indented}
+use Rattle.kdl_layout.proofs.Keeping.Blocks.{Braces, together, apart, block_texts, block_same, end_same}
 use Rattle.kdl_layout.proofs.OneLine.Nothing.{ArePlain, Quiet, are_plain, head_parts, nothing_kept, quiet_lead, quiet_lines, quiet_node, quiet_start, read_spaces, spaces_without_bom, line_is_plain, quiet_passes, nothing_tailed, HeadParts}
 use Rattle.kdl_layout.proofs.OneLine.Same.{one_or_more, block_stays}
 use Rattle.kdl_layout.proofs.Keeping.KeptPlaces.{level_spaces}
@@ -215,7 +216,7 @@ end_again : (ns : Nodes) → is_end (nodes_in_line ns) ≡ is_end ns
 end_again none = refl
 end_again (first (node h k) ns) = refl
 
-nodes_again : {number : ℕ} {s : Settings} {keep : Keeping} {level : ℕ} {b : Before} {ns xs : Nodes} → nodes_on_line ns ≡ true → SpelledNodes number s keep level b ns xs → nodes_on_line (nodes_in_line xs) ≡ true
+nodes_again : {compact : Bool} {number : ℕ} {s : Settings} {keep : Keeping} {level : ℕ} {b : Before} {ns xs : Nodes} → nodes_on_line ns ≡ true → SpelledNodes compact number s keep level b ns xs → nodes_on_line (nodes_in_line xs) ≡ true
 nodes_again h nodeless = refl
 nodes_again h (one_more (spelled f (spelled_block c at nodes)) p fs) = absurd cc
 nodes_again {s = s} {keep = keep} h (one_more {level = level} {b = b} {ns = ns} {xs = xs} (spelled {h = y} {x = x} f blockless) p fs) =
@@ -224,23 +225,37 @@ nodes_again {s = s} {keep = keep} h (one_more {level = level} {b = b} {ns = ns} 
     both_true (both_true (head_spelled s keep level false (is_end ns) b y x f (head_parts (is_end ns) y e.0)) line) (nodes_again e.1 fs)
 
 -- a block that is laid out on more lines is not on one line
-more_lines : (t : Text) (u : Text) (f : Option DocumentFormat) → f ≡ Some (record { leading = 10 ∷ t; trailing = u }) → braces_on_line f ≡ false
+more_lines : (ind : Text) (f : DocumentFormat) → braces_on_line (Some (in_braces ind f)) ≡ false
 unfolding is_space
-more_lines t u f e = rw e refl
+more_lines ind f = refl
 
 and_false : (a b c : Bool) → b ≡ false → (a && (b && c)) ≡ false
 and_false true b c e = rw e refl
 and_false false b c e = refl
 
+-- `{}` is as it is on one line
+empty_same : (keep : Bool) (at : SourceSpan) → one_lined_children keep (children (document (Some braces_in_line) at none)) (children (document (Some braces_in_line) at none)) ≡ children (document (Some braces_in_line) at none)
+empty_same true at = refl
+empty_same false at = refl
+
+block_again : (keep : Bool) {compact : Bool} {number : ℕ} {s : Settings} {spelling : Keeping} {level : ℕ} {b : Before} {ns xs : Nodes} {ind x y : Text} {g : DocumentFormat} (at : SourceSpan) → SpelledNodes compact number s spelling level b ns xs → Braces ind compact ns x y g
+    → one_lined_nodes keep (one_lined_nodes keep ns xs) xs ≡ one_lined_nodes keep ns xs
+    → one_lined_children keep (children (document (Some g) at (one_lined_nodes keep ns xs))) (children (document (Some g) at xs)) ≡ children (document (Some g) at (one_lined_nodes keep ns xs))
+block_again keep at nodeless together e = empty_same keep at
+block_again keep {ns = ns} {xs = xs} {ind = ind} {x = x} {y = y} at nodes (apart {compact = compact}) e =
+    let f = in_braces ind (content_of compact ns x y) in
+    let off : (keep && is_on_one_line (document (Some f) at (one_lined_nodes keep ns xs))) ≡ false = and_false keep (braces_on_line (Some f)) (nodes_on_line (one_lined_nodes keep ns xs)) (more_lines ind (content_of compact ns x y)) in
+    rw off (ap (λ (y : Nodes). children (document (Some f) at y)) e)
+
 -- what is on one line stays on one line
-module _ {number : ℕ} {s : Settings} {spelling : Keeping} (keep : Bool) where
+module _ {compact : Bool} {number : ℕ} {s : Settings} {spelling : Keeping} (keep : Bool) where
   mutual
-    node_same : {level : ℕ} {b : Before} {n x : Node} → SpelledNode number s spelling level b n x → one_lined_node keep (one_lined_node keep n x) x ≡ one_lined_node keep n x
+    node_same : {level : ℕ} {b : Before} {n x : Node} → SpelledNode compact number s spelling level b n x → one_lined_node keep (one_lined_node keep n x) x ≡ one_lined_node keep n x
     node_same (spelled {x = x} f kids) = ap (node x) (children_same kids)
 
-    children_same : {level : ℕ} {k l : Children} → SpelledChildren number s spelling level k l → one_lined_children keep (one_lined_children keep k l) l ≡ one_lined_children keep k l
+    children_same : {level : ℕ} {k l : Children} → SpelledChildren compact number s spelling level k l → one_lined_children keep (one_lined_children keep k l) l ≡ one_lined_children keep k l
     children_same blockless = refl
-    children_same (spelled_block {f = f} {g = g} {at = at} {at' = at'} {ns = ns} {xs = xs} c same nodes) =
+    children_same (spelled_block {level = level} {f = f} {g = g} {at = at} {at' = at'} {ns = ns} {xs = xs} c same nodes) =
         let d = document f at ns in
         let d' = document g at' xs in
         one_or_more (λ (z : Document). one_lined_children keep (children z) (children d') ≡ children z) (keep && is_on_one_line d) (in_one_line d') (one_lined_document keep d d')
@@ -248,15 +263,15 @@ module _ {number : ℕ} {s : Settings} {spelling : Keeping} (keep : Bool) where
         let on : is_on_one_line (in_one_line d') ≡ true = nodes_again (and_parts (braces_on_line f) (nodes_on_line ns) w.1).1 nodes in
         rw (w.0, on) refl)
         (λ e. let ys = one_lined_nodes keep ns xs in
-        let off : (keep && is_on_one_line (document g at' ys)) ≡ false = and_false keep (braces_on_line g) (nodes_on_line ys) (more_lines c.0 _ g c.3) in
-        rw off (ap (λ (y : Nodes). children (document g at' y)) (nodes_same nodes)))
+        subst (λ (z : Option DocumentFormat). one_lined_children keep (children (document z at' ys)) (children (document z at' xs)) ≡ children (document z at' ys)) (sym c.3)
+        (block_again keep at' nodes (block_texts compact (indentation s level) ns c.0 c.1) (nodes_same nodes)))
 
-    nodes_same : {level : ℕ} {b : Before} {ns xs : Nodes} → SpelledNodes number s spelling level b ns xs → one_lined_nodes keep (one_lined_nodes keep ns xs) xs ≡ one_lined_nodes keep ns xs
+    nodes_same : {level : ℕ} {b : Before} {ns xs : Nodes} → SpelledNodes compact number s spelling level b ns xs → one_lined_nodes keep (one_lined_nodes keep ns xs) xs ≡ one_lined_nodes keep ns xs
     nodes_same nodeless = refl
     nodes_same (one_more f p fs) = let a = node_same f in let b = nodes_same fs in λ i. first (a i) (b i)
 
-document_same : (number : ℕ) (s : Settings) (spelling : Keeping) (keep : Bool) (level : ℕ) (d x : Document) → SpelledDocument number s spelling level d x → one_lined_document keep (one_lined_document keep d x) x ≡ one_lined_document keep d x
-document_same number s spelling keep level (document f at ns) (document g at' xs) (b, c, same, nodes) = ap (document g at') (nodes_same keep nodes)
+document_same : (compact : Bool) (number : ℕ) (s : Settings) (spelling : Keeping) (keep : Bool) (level : ℕ) (d x : Document) → SpelledDocument compact number s spelling level d x → one_lined_document keep (one_lined_document keep d x) x ≡ one_lined_document keep d x
+document_same compact number s spelling keep level (document f at ns) (document g at' xs) (b, c, same, nodes) = ap (document g at') (nodes_same keep nodes)
 
 -- layout makes the same of a block on one line as of the same nodes on lines of their own
 typed_as : (c : Bool) (f f' : NodeFormat) (m o : Option NodeFormat) → node_type_texts f ≡ node_type_texts f' → IsTypedFormat c f m o → IsTypedFormat c f' m o
@@ -330,7 +345,7 @@ module _ (number : ℕ) (s : Settings) where
           };
         }
 
-    nodes_mid : (spelling : Keeping) (ns : Nodes) {b c : Before} {ys : Nodes} → ArePlain (indentation s level) ns → SpelledNodes number s spelling level c (nodes_in_line ns) ys → Quiet number b → Quiet number c → SpelledNodes number s spelling level b ns ys
+    nodes_mid : {compact : Bool} (spelling : Keeping) (ns : Nodes) {b c : Before} {ys : Nodes} → ArePlain (indentation s level) ns → SpelledNodes compact number s spelling level c (nodes_in_line ns) ys → Quiet number b → Quiet number c → SpelledNodes compact number s spelling level b ns ys
     nodes_mid spelling none p nodeless q q' = nodeless
     nodes_mid spelling (first (node h (children d)) ns) p f q q' = absurd p
     nodes_mid spelling (first (node h no_children) ns) {b = b} p (one_more {b = c} {b' = c'} (spelled {x = x} f blockless) r fs) q q' =
@@ -338,6 +353,11 @@ module _ (number : ℕ) (s : Settings) where
         let w = plain_passes h no_children p.0 in
         let quiet = quiet_passes number s level last (record h { format = Some (node_in_line last) }) no_children c' (format_again last) r in
         one_more (spelled (node_mid spelling last b c h x p.0 f q q') blockless) w.1 (nodes_mid spelling ns p.1 fs w.2 quiet)
+
+  -- the texts of a block in which nothing is kept
+  bare_gaps : (ok : list_all is_space s.indent ≡ true) (level : ℕ) {compact : Bool} {ns : Nodes} {f : DocumentFormat} → Braces (indentation s level) compact ns [] [] f → GapItems (without_bom f.leading) [] × GapItems f.trailing []
+  bare_gaps ok level together = (GapItems.none, GapItems.none)
+  bare_gaps ok level (apart {compact = compact} {ns = ns}) = (newline_items GapItems.none, alone (joined (newline_if compact ns) (indented s ok level)))
 
   same_none : (ns : Nodes) → newline_if_none (nodes_in_line ns) ≡ newline_if_none ns
   same_none none = refl
@@ -347,7 +367,7 @@ quiet_first : (number : ℕ) (s : Settings) (level : ℕ) (t u : Text) (b : Befo
 quiet_first zero s level t u b g k = tt
 quiet_first (suc n) s level t u b g k = ap blank_lines (passes_as g k.1)
 
-module _ (number : ℕ) (s : Settings) (ok : list_all is_space s.indent ≡ true) (keep : Bool) where
+module _ (compact : Bool) (number : ℕ) (s : Settings) (ok : list_all is_space s.indent ≡ true) (keep : Bool) where
   -- the formats of nodes stay
   node_passes : (n n' : Node) (b : Before) → PassesNode number s (one_lined_node keep n n') b → PassesNode number s n' b
   node_passes (node h k) (node h' k') b p = p
@@ -371,8 +391,8 @@ module _ (number : ℕ) (s : Settings) (ok : list_all is_space s.indent ≡ true
   module _ (spelling : Keeping) where
     -- a block on one line
     line_as : (level : ℕ) (b : Before) (o : Option DocumentFormat) (ns : Nodes) (g : Option DocumentFormat) (at : SourceSpan) (xs : Nodes) {j : Children} → braces_on_line o ≡ true → nodes_on_line ns ≡ true
-        → IsSpacedBraced number s level ns (or_empty_document o) b g → SpelledNodes number s spelling (level + 1) b ns xs
-        → SpelledChildren number s spelling level (children (document (Some braces_in_line) at (nodes_in_line xs))) j → SpelledChildren number s spelling level (children (document g at xs)) j
+        → IsSpacedBraced compact number s level ns (or_empty_document o) b g → SpelledNodes compact number s spelling (level + 1) b ns xs
+        → SpelledChildren compact number s spelling level (children (document (Some braces_in_line) at (nodes_in_line xs))) j → SpelledChildren compact number s spelling level (children (document g at xs)) j
     line_as level b None ns g at xs braces on c nodes k = absurd cc
     line_as level b (Some f) ns g at xs braces on c nodes (spelled_block {b = b2} (x, y, c2, e2) same nodes2) =
         let inner = level + 1 in
@@ -384,59 +404,59 @@ module _ (number : ℕ) (s : Settings) (ok : list_all is_space s.indent ≡ true
         let x0 : x ≡ [] = nothing_kept number s inner at_start b2 [] x GapItems.none c2.leading in
         let y0 : y ≡ [] = nothing_kept number s inner c2.last c2.after_it [] y GapItems.none c2.trailing in
         let plain = are_plain on (quiet_lead number s inner at_start b f.leading c.0 sides.0 old_lead (quiet_start number)) nodes in
-        let start : GapItems (10 ∷ []) [] = newline_items GapItems.none in
-        let lead = nothing_of number s inner at_start (10 ∷ []) start in
-        let before = read (10 ∷ []) at_start in
+        let laid = block_of compact ind ns [] [] in
+        let gaps = bare_gaps number s ok level (block_texts compact ind ns [] []) in
+        let opening = without_bom laid.leading in
+        let lead = nothing_of number s inner at_start opening gaps.0 in
+        let before = read opening at_start in
         let last = last_plain number s ok inner before xs plain in
-        let end : GapItems (newline_if_none ns ++ ind) [] = alone (joined (newline_if ns) (indented s ok level)) in
-        let laid : DocumentFormat = record { leading = 10 ∷ []; trailing = newline_if_none ns ++ ind } in
         let is : or_empty_document g ≡ laid = ap or_empty_document c.3 ∙ rw (a0, a1) refl in
         let content : SpacesContent number s inner xs (or_empty_document g) before [] [] =
         subst (λ (z : DocumentFormat). SpacesContent number s inner xs z before [] []) (sym is)
-        (record { last = last.0; after_it = read (newline_if_none ns ++ ind) last.0; leading = lead; passes = last.1; trailing = nothing_of number s inner last.0 (newline_if_none ns ++ ind) end }) in
-        spelled_block ([], [], content, e2 ∙ rw (x0, y0, same_none number s xs) refl) same
-        (nodes_mid number s ok inner spelling xs plain nodes2 (quiet_first number s inner (10 ∷ []) [] before start lead) (quiet_lead number s inner at_start b2 [] x refl c2.leading (quiet_start number)))
+        (record { last = last.0; after_it = read laid.trailing last.0; leading = lead; passes = last.1; trailing = nothing_of number s inner last.0 laid.trailing gaps.1 }) in
+        spelled_block ([], [], content, e2 ∙ ap Some (rw (x0, y0) (block_same compact ind [] [] _ _ (same_none number s xs)))) same
+        (nodes_mid number s ok inner spelling xs plain nodes2 (quiet_first number s inner opening [] before gaps.0 lead) (quiet_lead number s inner at_start b2 [] x refl c2.leading (quiet_start number)))
 
     -- a block on more lines
     lines_as : (level : ℕ) (ns : Nodes) (g : Option DocumentFormat) (at : SourceSpan) (xs : Nodes) {j : Children}
-        → ((c : Before) (ys : Nodes) → SpelledNodes number s spelling (level + 1) c (one_lined_nodes keep ns xs) ys → SpelledNodes number s spelling (level + 1) c xs ys)
-        → SpelledChildren number s spelling level (children (document g at (one_lined_nodes keep ns xs))) j → SpelledChildren number s spelling level (children (document g at xs)) j
+        → ((c : Before) (ys : Nodes) → SpelledNodes compact number s spelling (level + 1) c (one_lined_nodes keep ns xs) ys → SpelledNodes compact number s spelling (level + 1) c xs ys)
+        → SpelledChildren compact number s spelling level (children (document g at (one_lined_nodes keep ns xs))) j → SpelledChildren compact number s spelling level (children (document g at xs)) j
     lines_as level ns g at xs below (spelled_block {b = c} {xs = ys} (x, y, w, e) same nodes) =
-        spelled_block (x, y, content_as (level + 1) ns xs (or_empty_document g) c x y w, e ∙ ap (λ (t : Text). Some (in_braces (indentation s level) (record { leading = x; trailing = y ++ t }))) (newline_same ns xs)) same (below c ys nodes)
+        spelled_block (x, y, content_as (level + 1) ns xs (or_empty_document g) c x y w, e ∙ ap Some (block_same compact (indentation s level) x y _ _ (newline_same ns xs))) same (below c ys nodes)
 
     mutual
-      node_as : {level : ℕ} {b c : Before} {n x y : Node} → SpelledNode number s spelling level b n x → SpelledNode number s spelling level c (one_lined_node keep n x) y → SpelledNode number s spelling level c x y
+      node_as : {level : ℕ} {b c : Before} {n x y : Node} → SpelledNode compact number s spelling level b n x → SpelledNode compact number s spelling level c (one_lined_node keep n x) y → SpelledNode compact number s spelling level c x y
       node_as (spelled {level = level} {x = x} {k = k} {l = l} f kids) (spelled {b = c} {x = y} g more) = spelled (subst (λ (z : Bool). SpelledHead number s spelling level z c x y) (block_stays keep k l) g) (children_as kids more)
 
-      children_as : {level : ℕ} {k l j : Children} → SpelledChildren number s spelling level k l → SpelledChildren number s spelling level (one_lined_children keep k l) j → SpelledChildren number s spelling level l j
+      children_as : {level : ℕ} {k l j : Children} → SpelledChildren compact number s spelling level k l → SpelledChildren compact number s spelling level (one_lined_children keep k l) j → SpelledChildren compact number s spelling level l j
       children_as blockless more = more
       children_as {j = j} (spelled_block {level = level} {b = b} {f = f} {g = g} {at = at} {at' = at'} {ns = ns} {xs = xs} c same nodes) more =
-          one_or_more (λ (z : Document). SpelledChildren number s spelling level (children z) j → SpelledChildren number s spelling level (children (document g at' xs)) j)
+          one_or_more (λ (z : Document). SpelledChildren compact number s spelling level (children z) j → SpelledChildren compact number s spelling level (children (document g at' xs)) j)
           (keep && is_on_one_line (document f at ns)) (in_one_line (document g at' xs)) (one_lined_document keep (document f at ns) (document g at' xs))
           (λ e z. let w = and_parts (braces_on_line f) (nodes_on_line ns) (and_parts keep (is_on_one_line (document f at ns)) e).1 in line_as level b f ns g at' xs w.0 w.1 c nodes z)
           (λ e z. lines_as level ns g at' xs (λ d ys w. nodes_as nodes w) z)
           more
 
-      nodes_as : {level : ℕ} {b c : Before} {ns xs ys : Nodes} → SpelledNodes number s spelling level b ns xs → SpelledNodes number s spelling level c (one_lined_nodes keep ns xs) ys → SpelledNodes number s spelling level c xs ys
+      nodes_as : {level : ℕ} {b c : Before} {ns xs ys : Nodes} → SpelledNodes compact number s spelling level b ns xs → SpelledNodes compact number s spelling level c (one_lined_nodes keep ns xs) ys → SpelledNodes compact number s spelling level c xs ys
       nodes_as nodeless more = more
       nodes_as (one_more {n = n} {x = x} f p fs) (one_more {b' = c} g q gs) = one_more (node_as f g) (node_passes n x c q) (nodes_as fs gs)
 
-    document_as : (level : ℕ) (d x y : Document) → SpelledDocument number s spelling level d x → SpelledDocument number s spelling level (one_lined_document keep d x) y → SpelledDocument number s spelling level x y
+    document_as : (level : ℕ) (d x y : Document) → SpelledDocument compact number s spelling level d x → SpelledDocument compact number s spelling level (one_lined_document keep d x) y → SpelledDocument compact number s spelling level x y
     document_as level (document f at ns) (document g at' xs) (document h ct ys) (b, c, same, nodes) (b', (x, y, w, e), same', nodes') =
-        (b', (x, y, content_as level ns xs (or_empty_document g) b' x y w, e ∙ ap (λ (t : Text). Some (record { leading = x; trailing = y ++ t })) (newline_same ns xs)), same', nodes_as nodes nodes')
+        (b', (x, y, content_as level ns xs (or_empty_document g) b' x y w, e ∙ ap (λ (t : Text). Some (record { leading = x; trailing = y ++ t })) (end_same compact _ _ (newline_same ns xs))), same', nodes_as nodes nodes')
 
   module _ (flag : s.entry_autoformate_keep ≡ false) (spelling : Keeping) where
     -- a second layout changes nothing
-    pub document_stays : (level : ℕ) (d x y : Document) → IsLaidDocument spelling keep number s level d x → DocumentKeepsNone d → IsLaidDocument spelling keep number s level x y → y ≡ x
+    pub document_stays : (level : ℕ) (d x y : Document) → IsLaidDocument spelling keep compact number s level d x → DocumentKeepsNone d → IsLaidDocument spelling keep compact number s level x y → y ≡ x
     document_stays level d x y (r, (m, f, q), e) bare (r2, (m2, g, q2), e2) =
-        let steps = spelled_document number s spelling level d m r f q in
-        let second = subst (λ (z : Document). SpelledDocument number s spelling level z r2) e (spelled_document number s spelling level x m2 r2 g q2) in
-        let same : r2 ≡ r = document_again s ok flag spelling number level d r r2 steps bare (document_as spelling level d r r2 steps second) in
-        e2 ∙ ap (λ (z : Document). one_lined_document keep z r2) e ∙ ap (one_lined_document keep (one_lined_document keep d r)) same ∙ document_same number s spelling keep level d r steps ∙ sym e
+        let steps = spelled_document compact number s spelling level d m r f q in
+        let second = subst (λ (z : Document). SpelledDocument compact number s spelling level z r2) e (spelled_document compact number s spelling level x m2 r2 g q2) in
+        let same : r2 ≡ r = document_again s ok flag spelling compact number level d r r2 steps bare (document_as spelling level d r r2 steps second) in
+        e2 ∙ ap (λ (z : Document). one_lined_document keep z r2) e ∙ ap (one_lined_document keep (one_lined_document keep d r)) same ∙ document_same compact number s spelling keep level d r steps ∙ sym e
 
-    pub node_stays : (level : ℕ) (n x y : Node) → IsLaidNode spelling keep number s level at_start n x → NodeKeepsNone n → IsLaidNode spelling keep number s level at_start x y → y ≡ x
+    pub node_stays : (level : ℕ) (n x y : Node) → IsLaidNode spelling keep compact number s level at_start n x → NodeKeepsNone n → IsLaidNode spelling keep compact number s level at_start x y → y ≡ x
     node_stays level n x y (r, (m, f, q), e) bare (r2, (m2, g, q2), e2) =
-        let steps = spelled_node number s spelling level at_start n m r f q in
-        let second = subst (λ (z : Node). SpelledNode number s spelling level at_start z r2) e (spelled_node number s spelling level at_start x m2 r2 g q2) in
-        let same : r2 ≡ r = node_again s ok flag spelling number steps bare (node_as spelling steps second) (start_again number) in
+        let steps = spelled_node compact number s spelling level at_start n m r f q in
+        let second = subst (λ (z : Node). SpelledNode compact number s spelling level at_start z r2) e (spelled_node compact number s spelling level at_start x m2 r2 g q2) in
+        let same : r2 ≡ r = node_again s ok flag spelling compact number steps bare (node_as spelling steps second) (start_again number) in
         e2 ∙ ap (λ (z : Node). one_lined_node keep z r2) e ∙ ap (one_lined_node keep (one_lined_node keep n r)) same ∙ node_same keep steps ∙ sym e

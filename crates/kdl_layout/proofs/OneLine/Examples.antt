@@ -1,5 +1,5 @@
--- Values that are not on one line, and others that are.
-use Rattle.kdl_layout.proofs.Common.{◌≡◌, true, false, [], ◌∷◌, refl, Some, None, empty_format, Head, node, no_children, children, document, none, first, end_on_line, form_on_line, is_on_one_line, no_newline, only_spaces, is_newline_char, is_space}
+-- Values that are not on one line, and others that are; the texts around the nodes of a block, and of a document.
+use Rattle.kdl_layout.proofs.Common.{◌≡◌, true, false, [], ◌∷◌, refl, Some, None, empty_format, Head, node, no_children, children, document, Node, Nodes, none, first, Text, block_of, content_of, end_on_line, form_on_line, is_on_one_line, no_newline, only_spaces, is_newline_char, is_space}
 use Rattle.kdl_entry.specs.Tree.{no_span}
 use Rattle.kdl_layout.specs.OneLine.{node_on_line}
 
@@ -53,3 +53,26 @@ no_nodes = refl
 
 one_node : is_on_one_line (document (Some (record { leading = []; trailing = [] })) no_span (first (node named no_children) none)) ≡ true
 one_node = refl
+
+-- without nodes and comments a block is `{}`
+nothing_there : (indent : Text) → block_of true indent none [] [] ≡ record { leading = []; trailing = [] }
+nothing_there indent = refl
+
+-- the line of a comment, and then the `}`
+one_comment : (indent : Text) → block_of true indent none (47 ∷ 47 ∷ 10 ∷ []) [] ≡ record { leading = 10 ∷ 47 ∷ 47 ∷ 10 ∷ []; trailing = indent }
+one_comment indent = refl
+
+-- nodes on lines of their own
+some_nodes : (indent : Text) (n : Node) (ns : Nodes) → block_of true indent (first n ns) [] [] ≡ record { leading = 10 ∷ []; trailing = indent }
+some_nodes indent n ns = refl
+
+-- without `compact` a newline is in place of nodes
+in_place : (indent : Text) → block_of false indent none [] [] ≡ record { leading = 10 ∷ []; trailing = 10 ∷ indent }
+in_place indent = refl
+
+-- the empty text, and a text of comments alone
+empty_document : content_of true none [] [] ≡ record { leading = []; trailing = [] }
+empty_document = refl
+
+comments_alone : content_of true none (47 ∷ 47 ∷ 10 ∷ []) [] ≡ record { leading = 47 ∷ 47 ∷ 10 ∷ []; trailing = [] }
+comments_alone = refl

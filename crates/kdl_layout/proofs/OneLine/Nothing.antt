@@ -141,10 +141,10 @@ ArePlain ind none = Unit {0}
 ArePlain ind (first (node h no_children) ns) = (h.format ≡ Some (plain_line ind)) × ArePlain ind ns
 ArePlain ind (first (node h (children d)) ns) = ⊥
 
-pub are_plain : {number : ℕ} {s : Settings} {keep : Keeping} {level : ℕ} {b : Before} {ns xs : Nodes} → nodes_on_line ns ≡ true → Quiet number b → SpelledNodes number s keep level b ns xs → ArePlain (indentation s level) xs
+pub are_plain : {compact : Bool} {number : ℕ} {s : Settings} {keep : Keeping} {level : ℕ} {b : Before} {ns xs : Nodes} → nodes_on_line ns ≡ true → Quiet number b → SpelledNodes compact number s keep level b ns xs → ArePlain (indentation s level) xs
 are_plain h q nodeless = tt
 are_plain h q (one_more (spelled f (spelled_block c at nodes)) p fs) = absurd cc
-are_plain {number} {s} h q (one_more {level = level} {b = b} {b' = b'} {ns = ns} (spelled {h = y} {x = x} f blockless) p fs) =
+are_plain {number = number} {s = s} h q (one_more {level = level} {b = b} {b' = b'} {ns = ns} (spelled {h = y} {x = x} f blockless) p fs) =
     let e = and_parts (head_on_line (is_end ns) y) (nodes_on_line ns) h in
     let line = (head_parts (is_end ns) y e.0).line in
     let format = head_line level false b y x f in (

@@ -272,7 +272,7 @@ module _ (s : Settings) (no_keep : s.entry_autoformate_keep ≡ false) where
       λ i. h i ∷ t i
   entries_again keep _ _ _ _ _ f o a g b = absurd assumption
 
-module _ (s : Settings) (ok : list_all is_space s.indent ≡ true) (no_keep : s.entry_autoformate_keep ≡ false) (keep : Keeping) (number : ℕ) where
+module _ (s : Settings) (ok : list_all is_space s.indent ≡ true) (no_keep : s.entry_autoformate_keep ≡ false) (keep : Keeping) (compact : Bool) (number : ℕ) where
   head_again : (level : ℕ) (has : Bool) (b c : Before) (h x y : Head) → SpelledHead number s keep level has b h x → EntriesKeepNone h.entries → SpelledHead number s keep level has c x y → IsAgain number b c → y ≡ x
   head_again level has b c h x y f o g i =
       let m = f.laid in
@@ -294,13 +294,13 @@ module _ (s : Settings) (ok : list_all is_space s.indent ≡ true) (no_keep : s.
       λ i. record { ty = ty i; name = name i; entries = entries i; format = format i; span = span i }
 
   mutual
-    pub node_again : {level : ℕ} {b c : Before} {n x y : Node} → SpelledNode number s keep level b n x → NodeKeepsNone n → SpelledNode number s keep level c x y → IsAgain number b c → y ≡ x
+    pub node_again : {level : ℕ} {b c : Before} {n x y : Node} → SpelledNode compact number s keep level b n x → NodeKeepsNone n → SpelledNode compact number s keep level c x y → IsAgain number b c → y ≡ x
     node_again (spelled {level = level} {b = b} {h = h} {x = x} {k = k} f kids) o (spelled {b = c} {x = y} g more) i =
         let a = head_again level (has_block k) b c h x y f o.0 (subst (λ (z : Bool). SpelledHead number s keep level z c x y) (same_block kids) g) i in
         let below = children_again kids o.1 more in
         λ z. node (a z) (below z)
 
-    children_again : {level : ℕ} {k l j : Children} → SpelledChildren number s keep level k l → ChildrenKeepNone k → SpelledChildren number s keep level l j → j ≡ l
+    children_again : {level : ℕ} {k l j : Children} → SpelledChildren compact number s keep level k l → ChildrenKeepNone k → SpelledChildren compact number s keep level l j → j ≡ l
     children_again blockless o blockless = refl
     children_again (spelled_block {level = level} {f = f} {g = g} c at nodes) o (spelled_block {g = g'} c' at' nodes') =
         let e = braced_stays s ok keep number level (or_empty_document f) g g' nodes c c' in
@@ -308,7 +308,7 @@ module _ (s : Settings) (ok : list_all is_space s.indent ≡ true) (no_keep : s.
         let below = nodes_again nodes o nodes' e.0 in
         λ z. children (document (format z) (at' z) (below z))
 
-    nodes_again : {level : ℕ} {b c : Before} {ns xs ys : Nodes} → SpelledNodes number s keep level b ns xs → NodesKeepNone ns → SpelledNodes number s keep level c xs ys → IsAgain number b c → ys ≡ xs
+    nodes_again : {level : ℕ} {b c : Before} {ns xs ys : Nodes} → SpelledNodes compact number s keep level b ns xs → NodesKeepNone ns → SpelledNodes compact number s keep level c xs ys → IsAgain number b c → ys ≡ xs
     nodes_again nodeless o nodeless i = refl
     nodes_again (one_more {b' = b} f p fs) o (one_more {b' = c} g q gs) i =
         let a = node_again f o.0 g i in
@@ -316,7 +316,7 @@ module _ (s : Settings) (ok : list_all is_space s.indent ≡ true) (no_keep : s.
         λ z. first (a z) (others z)
 
   -- a second layout of a document
-  pub document_again : (level : ℕ) (d x y : Document) → SpelledDocument number s keep level d x → DocumentKeepsNone d → SpelledDocument number s keep level x y → y ≡ x
+  pub document_again : (level : ℕ) (d x y : Document) → SpelledDocument compact number s keep level d x → DocumentKeepsNone d → SpelledDocument compact number s keep level x y → y ≡ x
   document_again level (document f at ns) (document g bt xs) (document h ct ys) (b, c, same, nodes) o (b', c', same', nodes') =
       let e = content_stays s ok keep number level (or_empty_document f) g h nodes c c' in
       let format = e.1 in

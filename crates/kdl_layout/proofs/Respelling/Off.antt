@@ -1,5 +1,5 @@
 -- If neither spellings nor comments inside entries are kept, nothing is put back.
-use Rattle.kdl_layout.proofs.Common.{◌≡◌, ℕ, ◌+◌, false, List, [], ◌∷◌, refl, sym, ap, Option, Some, None, option_map, Identifier, Entry, unspelled, Head, Node, node, Children, no_children, children, Document, document, Nodes, none, first, Settings, IsRespelledIf, AreRespelledEntries, IsRespelledHead, IsRespelledNode, AreRespelledChildren, IsRespelledDocument, AreRespelledNodes, IsSpacedNode, IsSpacedChildren, AreSpacedNodes, IsSpacedDocument, AreFormattedEntries, Before}
+use Rattle.kdl_layout.proofs.Common.{◌≡◌, ℕ, Bool, ◌+◌, false, List, [], ◌∷◌, refl, sym, ap, Option, Some, None, option_map, Identifier, Entry, unspelled, Head, Node, node, Children, no_children, children, Document, document, Nodes, none, first, Settings, IsRespelledIf, AreRespelledEntries, IsRespelledHead, IsRespelledNode, AreRespelledChildren, IsRespelledDocument, AreRespelledNodes, IsSpacedNode, IsSpacedChildren, AreSpacedNodes, IsSpacedDocument, AreFormattedEntries, Before}
 use Rattle.kdl_layout.specs.Config.{nothing}
 use Rattle.std.proofs.lemmas.Option.{none-some}
 
@@ -51,23 +51,23 @@ entries_itself s [] [] f = tt
 entries_itself s (e ∷ es) (m ∷ ms) f = (refl, entries_itself s es ms f.1)
 entries_itself s _ _ f = absurd assumption
 
-module _ (number : ℕ) (s : Settings) where
+module _ (compact : Bool) (number : ℕ) (s : Settings) where
   mutual
-    pub node_itself : (level : ℕ) (b : Before) (n m : Node) → IsSpacedNode number s level b n m → IsRespelledNode nothing s n m m
+    pub node_itself : (level : ℕ) (b : Before) (n m : Node) → IsSpacedNode compact number s level b n m → IsRespelledNode nothing s n m m
     node_itself level b (node h k) (node m j) f = (
       record { ty = itself_if h.ty m.ty f.0.ty; name = refl; entries = entries_itself s h.entries m.entries f.0.entries; format = refl; span = refl },
       children_itself level k j f.1,
     )
 
-    children_itself : (level : ℕ) (k j : Children) → IsSpacedChildren number s level k j → AreRespelledChildren nothing s k j j
+    children_itself : (level : ℕ) (k j : Children) → IsSpacedChildren compact number s level k j → AreRespelledChildren nothing s k j j
     children_itself level no_children no_children f = tt
     children_itself level (children (document d at ns)) (children (document e bt ms)) (b, f, same, nodes, fits) = (refl, refl, nodes_itself (level + 1) b ns ms nodes)
     children_itself level _ _ f = absurd assumption
 
-    pub nodes_itself : (level : ℕ) (b : Before) (ns ms : Nodes) → AreSpacedNodes number s level b ns ms → AreRespelledNodes nothing s ns ms ms
+    pub nodes_itself : (level : ℕ) (b : Before) (ns ms : Nodes) → AreSpacedNodes compact number s level b ns ms → AreRespelledNodes nothing s ns ms ms
     nodes_itself level b none none f = tt
     nodes_itself level b (first n ns) (first m ms) f = (node_itself level b n m f.1, nodes_itself level f.0 ns ms f.3)
     nodes_itself level b _ _ f = absurd assumption
 
-  pub document_itself : (level : ℕ) (d m : Document) → IsSpacedDocument number s level d m → IsRespelledDocument nothing s d m m
+  pub document_itself : (level : ℕ) (d m : Document) → IsSpacedDocument compact number s level d m → IsRespelledDocument nothing s d m m
   document_itself level (document d at ns) (document e bt ms) (b, f, same, nodes) = (refl, refl, nodes_itself level b ns ms nodes)

@@ -8,53 +8,53 @@ pub record SpelledHead (number : ℕ) (s : Settings) (keep : Keeping) (level : �
   pub respelled : IsRespelledHead keep s h laid x
 
 mutual
-  pub data SpelledNode (number : ℕ) (s : Settings) (keep : Keeping) : ℕ → Before → Node → Node → Type 0 where
-    spelled : {level : ℕ} {b : Before} {h x : Head} {k l : Children} → SpelledHead number s keep level (has_block k) b h x → SpelledChildren number s keep level k l → SpelledNode number s keep level b (node h k) (node x l)
+  pub data SpelledNode (compact : Bool) (number : ℕ) (s : Settings) (keep : Keeping) : ℕ → Before → Node → Node → Type 0 where
+    spelled : {level : ℕ} {b : Before} {h x : Head} {k l : Children} → SpelledHead number s keep level (has_block k) b h x → SpelledChildren compact number s keep level k l → SpelledNode compact number s keep level b (node h k) (node x l)
 
-  pub data SpelledChildren (number : ℕ) (s : Settings) (keep : Keeping) : ℕ → Children → Children → Type 0 where
-    blockless : {level : ℕ} → SpelledChildren number s keep level no_children no_children
-    spelled_block : {level : ℕ} {b : Before} {f g : Option DocumentFormat} {at at' : SourceSpan} {ns xs : Nodes} → IsSpacedBraced number s level ns (or_empty_document f) b g → at' ≡ at
-        → SpelledNodes number s keep (level + 1) b ns xs → SpelledChildren number s keep level (children (document f at ns)) (children (document g at' xs))
+  pub data SpelledChildren (compact : Bool) (number : ℕ) (s : Settings) (keep : Keeping) : ℕ → Children → Children → Type 0 where
+    blockless : {level : ℕ} → SpelledChildren compact number s keep level no_children no_children
+    spelled_block : {level : ℕ} {b : Before} {f g : Option DocumentFormat} {at at' : SourceSpan} {ns xs : Nodes} → IsSpacedBraced compact number s level ns (or_empty_document f) b g → at' ≡ at
+        → SpelledNodes compact number s keep (level + 1) b ns xs → SpelledChildren compact number s keep level (children (document f at ns)) (children (document g at' xs))
 
-  pub data SpelledNodes (number : ℕ) (s : Settings) (keep : Keeping) : ℕ → Before → Nodes → Nodes → Type 0 where
-    nodeless : {level : ℕ} {b : Before} → SpelledNodes number s keep level b none none
-    one_more : {level : ℕ} {b b' : Before} {n x : Node} {ns xs : Nodes} → SpelledNode number s keep level b n x → PassesNode number s n b' → SpelledNodes number s keep level b' ns xs
-        → SpelledNodes number s keep level b (first n ns) (first x xs)
+  pub data SpelledNodes (compact : Bool) (number : ℕ) (s : Settings) (keep : Keeping) : ℕ → Before → Nodes → Nodes → Type 0 where
+    nodeless : {level : ℕ} {b : Before} → SpelledNodes compact number s keep level b none none
+    one_more : {level : ℕ} {b b' : Before} {n x : Node} {ns xs : Nodes} → SpelledNode compact number s keep level b n x → PassesNode number s n b' → SpelledNodes compact number s keep level b' ns xs
+        → SpelledNodes compact number s keep level b (first n ns) (first x xs)
 
-abbrev pub SpelledDocument : ℕ → Settings → Keeping → ℕ → Document → Document → Type 0
-SpelledDocument number s keep level (document f at ns) (document g at' xs) = (b : Before) × IsSpacedContent number s level ns (or_empty_document f) b g × (at' ≡ at) × SpelledNodes number s keep level b ns xs
+abbrev pub SpelledDocument : Bool → ℕ → Settings → Keeping → ℕ → Document → Document → Type 0
+SpelledDocument compact number s keep level (document f at ns) (document g at' xs) = (b : Before) × IsSpacedContent compact number s level ns (or_empty_document f) b g × (at' ≡ at) × SpelledNodes compact number s keep level b ns xs
 
 -- what is laid out and has its spellings back
-module _ (number : ℕ) (s : Settings) (keep : Keeping) where
+module _ (compact : Bool) (number : ℕ) (s : Settings) (keep : Keeping) where
   mutual
-    pub spelled_node : (level : ℕ) (b : Before) (n m x : Node) → IsSpacedNode number s level b n m → IsRespelledNode keep s n m x → SpelledNode number s keep level b n x
+    pub spelled_node : (level : ℕ) (b : Before) (n m x : Node) → IsSpacedNode compact number s level b n m → IsRespelledNode keep s n m x → SpelledNode compact number s keep level b n x
     spelled_node level b (node h k) (node m j) (node x l) f r = spelled (record { laid = m; spaced = f.0; respelled = r.0 }) (spelled_children level k j l f.1 r.1)
 
-    spelled_children : (level : ℕ) (k j l : Children) → IsSpacedChildren number s level k j → AreRespelledChildren keep s k j l → SpelledChildren number s keep level k l
+    spelled_children : (level : ℕ) (k j l : Children) → IsSpacedChildren compact number s level k j → AreRespelledChildren keep s k j l → SpelledChildren compact number s keep level k l
     spelled_children level no_children no_children no_children f r = blockless
     spelled_children level (children (document f at ns)) (children (document g bt ms)) (children (document x ct xs)) (b, c, same, nodes, fits) r =
-        spelled_block (subst (λ (z : Option DocumentFormat). IsSpacedBraced number s level ns (or_empty_document f) b z) (sym r.0) c) (r.1 ∙ same) (spelled_nodes (level + 1) b ns ms xs nodes r.2)
+        spelled_block (subst (λ (z : Option DocumentFormat). IsSpacedBraced compact number s level ns (or_empty_document f) b z) (sym r.0) c) (r.1 ∙ same) (spelled_nodes (level + 1) b ns ms xs nodes r.2)
     spelled_children level _ _ _ f r = absurd assumption
 
-    pub spelled_nodes : (level : ℕ) (b : Before) (ns ms xs : Nodes) → AreSpacedNodes number s level b ns ms → AreRespelledNodes keep s ns ms xs → SpelledNodes number s keep level b ns xs
+    pub spelled_nodes : (level : ℕ) (b : Before) (ns ms xs : Nodes) → AreSpacedNodes compact number s level b ns ms → AreRespelledNodes keep s ns ms xs → SpelledNodes compact number s keep level b ns xs
     spelled_nodes level b none none none f r = nodeless
     spelled_nodes level b (first n ns) (first m ms) (first x xs) f r = one_more (spelled_node level b n m x f.1 r.0) f.2 (spelled_nodes level f.0 ns ms xs f.3 r.1)
     spelled_nodes level b _ _ _ f r = absurd assumption
 
-  pub spelled_document : (level : ℕ) (d m x : Document) → IsSpacedDocument number s level d m → IsRespelledDocument keep s d m x → SpelledDocument number s keep level d x
+  pub spelled_document : (level : ℕ) (d m x : Document) → IsSpacedDocument compact number s level d m → IsRespelledDocument keep s d m x → SpelledDocument compact number s keep level d x
   spelled_document level (document f at ns) (document g bt ms) (document x ct xs) (b, c, same, nodes) r = (
     b,
-    subst (λ (z : Option DocumentFormat). IsSpacedContent number s level ns (or_empty_document f) b z) (sym r.0) c,
+    subst (λ (z : Option DocumentFormat). IsSpacedContent compact number s level ns (or_empty_document f) b z) (sym r.0) c,
     r.1 ∙ same,
     spelled_nodes level b ns ms xs nodes r.2,
   )
 
 -- the shape stays
-module _ {number : ℕ} {s : Settings} {keep : Keeping} where
-  pub same_block : {level : ℕ} {k l : Children} → SpelledChildren number s keep level k l → has_block l ≡ has_block k
+module _ {compact : Bool} {number : ℕ} {s : Settings} {keep : Keeping} where
+  pub same_block : {level : ℕ} {k l : Children} → SpelledChildren compact number s keep level k l → has_block l ≡ has_block k
   same_block blockless = refl
   same_block (spelled_block c at nodes) = refl
 
-  pub same_newline : {level : ℕ} {b : Before} {ns xs : Nodes} → SpelledNodes number s keep level b ns xs → newline_if_none xs ≡ newline_if_none ns
+  pub same_newline : {level : ℕ} {b : Before} {ns xs : Nodes} → SpelledNodes compact number s keep level b ns xs → newline_if_none xs ≡ newline_if_none ns
   same_newline nodeless = refl
   same_newline (one_more f p fs) = refl

@@ -337,21 +337,21 @@ module _ (s : Settings) (no_keep : s.entry_autoformate_keep ≡ false) (keep : K
   }
 
 -- a node that is laid out, where none of its entries was flagged, and memory can hold it
-pub record IsWrittenNode (number : ℕ) (s : Settings) (keep : Keeping) (level : ℕ) (b : Before) (n x : Node) : Type 0 where
+pub record IsWrittenNode (compact : Bool) (number : ℕ) (s : Settings) (keep : Keeping) (level : ℕ) (b : Before) (n x : Node) : Type 0 where
   pub no_keep : s.entry_autoformate_keep ≡ false
-  pub laid : SpelledNode number s keep level b n x
+  pub laid : SpelledNode compact number s keep level b n x
   pub unflagged : NodeKeepsNone n
   pub fit : IsWellFormedNode (node_data n)
 
-pub record IsWrittenDocument (number : ℕ) (s : Settings) (keep : Keeping) (level : ℕ) (d x : Document) : Type 0 where
+pub record IsWrittenDocument (compact : Bool) (number : ℕ) (s : Settings) (keep : Keeping) (level : ℕ) (d x : Document) : Type 0 where
   pub no_keep : s.entry_autoformate_keep ≡ false
-  pub laid : SpelledDocument number s keep level d x
+  pub laid : SpelledDocument compact number s keep level d x
   pub unflagged : DocumentKeepsNone d
   pub fit : AreWellFormed (document_data d)
 
-module _ (number : ℕ) (s : Settings) (no_keep : s.entry_autoformate_keep ≡ false) (keep : Keeping) (level : ℕ) where
-  pub written_node : (b : Before) (n m x : Node) → IsSpacedNode number s level b n m → IsRespelledNode keep s n m x → NodeKeepsNone n → IsWellFormedNode (node_data n) → IsWrittenNode number s keep level b n x
-  written_node b n m x f r o w = record { no_keep = no_keep; laid = spelled_node number s keep level b n m x f r; unflagged = o; fit = w }
+module _ (compact : Bool) (number : ℕ) (s : Settings) (no_keep : s.entry_autoformate_keep ≡ false) (keep : Keeping) (level : ℕ) where
+  pub written_node : (b : Before) (n m x : Node) → IsSpacedNode compact number s level b n m → IsRespelledNode keep s n m x → NodeKeepsNone n → IsWellFormedNode (node_data n) → IsWrittenNode compact number s keep level b n x
+  written_node b n m x f r o w = record { no_keep = no_keep; laid = spelled_node compact number s keep level b n m x f r; unflagged = o; fit = w }
 
-  pub written_document : (d m x : Document) → IsSpacedDocument number s level d m → IsRespelledDocument keep s d m x → DocumentKeepsNone d → AreWellFormed (document_data d) → IsWrittenDocument number s keep level d x
-  written_document d m x f r o w = record { no_keep = no_keep; laid = spelled_document number s keep level d m x f r; unflagged = o; fit = w }
+  pub written_document : (d m x : Document) → IsSpacedDocument compact number s level d m → IsRespelledDocument keep s d m x → DocumentKeepsNone d → AreWellFormed (document_data d) → IsWrittenDocument compact number s keep level d x
+  written_document d m x f r o w = record { no_keep = no_keep; laid = spelled_document compact number s keep level d m x f r; unflagged = o; fit = w }

@@ -1,9 +1,10 @@
 -- What is laid out is the same once it is laid out again, however many blank lines are kept.
-use Rattle.kdl_layout.proofs.Common.{◌≡◌, Keeping, keeps_texts, ℕ, zero, suc, ◌+◌, Bool, true, false, List, ◌∷◌, ◌++◌, map, refl, sym, ap, subst, ◌∙◌, append_assoc, append-nil, Option, Some, option_map, None, [], list_all, list_any, if◌then◌else◌, ◌||◌, ◌&&◌, not, is_some, Text, is_space, NodeFormat, DocumentFormat, Node, Nodes, Item, GapItems, on_line, at_start, empty_lines, last_in, one_if, past_items, past_node, read, spaced_lines, newlines, Settings, indentation, or_empty, or_empty_document, newline_if_none, in_braces, ItemsIn, without_bom, WrittenUnless, Passes, PassesText, SpacesTexts, IsSpacedLine, PassesNode, PassesNodes, IsSpacedContent, IsSpacedBraced, SpacedLines, SpacesContent, PassesFormat, NodeTexts, line_of, has_block, content_of, IsTypedFormat, with_type_texts, Before, Thing, Other, is_newline_char}
+use Rattle.kdl_layout.proofs.Common.{◌≡◌, Keeping, keeps_texts, ℕ, zero, suc, ◌+◌, Bool, true, false, List, ◌∷◌, ◌++◌, map, refl, sym, ap, subst, ◌∙◌, append_assoc, append-nil, Option, Some, option_map, None, [], list_all, list_any, if◌then◌else◌, ◌||◌, ◌&&◌, not, is_some, Text, is_space, NodeFormat, DocumentFormat, Node, Nodes, Item, GapItems, on_line, at_start, empty_lines, last_in, one_if, past_items, past_node, read, spaced_lines, newlines, Settings, indentation, or_empty, or_empty_document, in_braces, ItemsIn, without_bom, WrittenUnless, Passes, PassesText, SpacesTexts, IsSpacedLine, PassesNode, PassesNodes, IsSpacedContent, IsSpacedBraced, SpacedLines, SpacesContent, PassesFormat, NodeTexts, line_of, has_block, content_of, newline_at_end, IsTypedFormat, with_type_texts, Before, Thing, Other, is_newline_char}
 use Rattle.std.proofs.lemmas.List.Folds.{list_any-append}
 use Rattle.kdl_layout.proofs.Listing.ItemsUnique.{gap_in_det}
 use Rattle.kdl_layout.proofs.Rewriting.LinesAgain.{newline_items}
 use Rattle.kdl_layout.proofs.Keeping.GapFronts.{alone, joined, newline_if, indented, gap_without_bom}
+use Rattle.kdl_layout.proofs.Keeping.Blocks.{Braces, together, apart, block_texts, block_same, end_same}
 use Rattle.kdl_layout.proofs.Keeping.KeptReads as kept
 use Rattle.kdl_layout.proofs.Keeping.KeptPlaces.{level_spaces}
 use Rattle.kdl_layout.proofs.Spacing.Lines.{spaced_items, times_front, again, again_past, lines_again, past_first, passed_again, spaced_again, spaces_count, lines_first, read_first, no_lines}
@@ -200,36 +201,47 @@ module _ (s : Settings) (ok : list_all is_space s.indent ≡ true) where
       passes_as k'.gap z' ∙ k'.state p x ∙ read_nothing (again p)
 
   module _ (keep : Keeping) where
-    pub node_passes : (number : ℕ) (p q : Before) {level : ℕ} {b : Before} {n x : Node} → SpelledNode number s keep level b n x → PassesNode number s n p → PassesNode number s x q → IsAgain number p q
+    pub node_passes : {compact : Bool} (number : ℕ) (p q : Before) {level : ℕ} {b : Before} {n x : Node} → SpelledNode compact number s keep level b n x → PassesNode number s n p → PassesNode number s x q → IsAgain number p q
     node_passes zero p q f x y = tt
     node_passes (suc n) p q (spelled {level = level} {b = b} {h = h} {x = h'} {k = k} f kids) x y =
         format_passes n level (has_block k) b p q (or_empty h.format) f.laid.format f.spaced.format x
         (typed_passes (suc n) s (keeps_texts keep && not s.no_comments && is_some h.ty) (or_empty h.format) f.laid.format h'.format q f.respelled.format y)
 
-    nodes_pass : (number : ℕ) (b c e q : Before) {level : ℕ} {a : Before} {ns xs : Nodes} → SpelledNodes number s keep level a ns xs → IsAgain number b c → PassesNodes number s b ns e → PassesNodes number s c xs q → IsAgain number e q
+    nodes_pass : {compact : Bool} (number : ℕ) (b c e q : Before) {level : ℕ} {a : Before} {ns xs : Nodes} → SpelledNodes compact number s keep level a ns xs → IsAgain number b c → PassesNodes number s b ns e → PassesNodes number s c xs q → IsAgain number e q
     nodes_pass number b c e q nodeless i x y = subst (λ (z : Before). IsAgain number z q) (sym x) (subst (IsAgain number b) (sym y) i)
     nodes_pass number b c e q (one_more f p nodeless) i x y = node_passes number e q f x y
     nodes_pass number b c e q (one_more f p (one_more g o fs)) i x y = nodes_pass number b c e q (one_more g o fs) i x y
 
     -- the texts around the nodes of a document, and of a block
-    trailing_stays : (number level : ℕ) {b c : Before} {ns xs : Nodes} (f f' : DocumentFormat) (x y x' y' r : Text) → SpelledNodes number s keep level b ns xs → SpacesContent number s level ns f b x y
+    trailing_stays : {compact : Bool} (number level : ℕ) {b c : Before} {ns xs : Nodes} (f f' : DocumentFormat) (x y x' y' r : Text) → SpelledNodes compact number s keep level b ns xs → SpacesContent number s level ns f b x y
         → SpacesContent number s level xs f' c x' y' → IsAgain number b c → GapItems r [] → f'.trailing ≡ y ++ r → y' ≡ y
     trailing_stays number level {b} {c} f f' x y x' y' r nodes w v i g e =
         (lines_stay number level w.last w.after_it v.last v.after_it f.trailing y r y' w.trailing g (nodes_pass number b c w.last v.last nodes i w.passes v.passes) (subst (λ (t : Text). SpacedLines number s level v.last t y' v.after_it) e v.trailing)).0
 
-    pub content_stays : (number level : ℕ) {b c : Before} {ns xs : Nodes} (f : DocumentFormat) (g h : Option DocumentFormat) → SpelledNodes number s keep level b ns xs
-        → IsSpacedContent number s level ns f b g → IsSpacedContent number s level xs (or_empty_document g) c h → IsAgain number b c × (h ≡ g)
-    content_stays number level {b} {c} {ns} {xs} f g h nodes (x, y, w, e) second =
-        let (x', y', v, e') = subst (λ (o : Option DocumentFormat). IsSpacedContent number s level xs (or_empty_document o) c h) e second in
+    pub content_stays : {compact : Bool} (number level : ℕ) {b c : Before} {ns xs : Nodes} (f : DocumentFormat) (g h : Option DocumentFormat) → SpelledNodes compact number s keep level b ns xs
+        → IsSpacedContent compact number s level ns f b g → IsSpacedContent compact number s level xs (or_empty_document g) c h → IsAgain number b c × (h ≡ g)
+    content_stays {compact} number level {b} {c} {ns} {xs} f g h nodes (x, y, w, e) second =
+        let (x', y', v, e') = subst (λ (o : Option DocumentFormat). IsSpacedContent compact number s level xs (or_empty_document o) c h) e second in
         let l = start_stays number level b c (without_bom f.leading) x x' w.leading v.leading in
-        let t = trailing_stays number level f (content_of ns x y) x y x' y' (newline_if_none ns) nodes w v l.1 (alone (newline_if ns)) refl in
-        (l.1, e' ∙ rw (l.0, t, same_newline nodes) refl ∙ sym e)
+        let t = trailing_stays number level f (content_of compact ns x y) x y x' y' (newline_at_end compact ns) nodes w v l.1 (alone (newline_if compact ns)) refl in
+        (l.1, e' ∙ rw (l.0, t, end_same compact _ _ (same_newline nodes)) refl ∙ sym e)
 
-    pub braced_stays : (number level : ℕ) {b c : Before} {ns xs : Nodes} (f : DocumentFormat) (g h : Option DocumentFormat) → SpelledNodes number s keep (level + 1) b ns xs
-        → IsSpacedBraced number s level ns f b g → IsSpacedBraced number s level xs (or_empty_document g) c h → IsAgain number b c × (h ≡ g)
-    braced_stays number level {b} {c} {ns} {xs} f g h nodes (x, y, w, e) second =
+    -- what is kept between the braces of a block, which prints `{}` or does not
+    block_stays : {compact : Bool} (number level : ℕ) {b c : Before} {ns xs : Nodes} {x y x' y' : Text} (f : DocumentFormat) {g : DocumentFormat} → SpelledNodes compact number s keep (level + 1) b ns xs → SpacesContent number s (level + 1) ns f b x y
+        → Braces (indentation s level) compact ns x y g → SpacesContent number s (level + 1) xs g c x' y' → IsAgain number b c × (x' ≡ x) × (y' ≡ y)
+    block_stays number level {b} {c} {x' = x'} {y' = y'} f nodes w together v =
+        let l = start_stays number (level + 1) b c (without_bom f.leading) [] x' w.leading v.leading in
+        (l.1, l.0, trailing_stays number (level + 1) f (record { leading = []; trailing = [] }) [] [] x' y' [] nodes w v l.1 GapItems.none refl)
+    block_stays number level {b} {c} {x = x} {y = y} {x' = x'} {y' = y'} f nodes w (apart {compact = compact} {ns = ns}) v =
         let ind = indentation s level in
-        let (x', y', v, e') = subst (λ (o : Option DocumentFormat). IsSpacedBraced number s level xs (or_empty_document o) c h) e second in
         let l = first_stays number (level + 1) b c (without_bom f.leading) x x' w.leading v.leading in
-        let t = trailing_stays number (level + 1) f (in_braces ind (content_of ns x y)) x y x' y' (newline_if_none ns ++ ind) nodes w v l.1 (alone (joined (newline_if ns) (indented s ok level))) (append_assoc y (newline_if_none ns) ind) in
-        (l.1, e' ∙ rw (l.0, t, same_newline nodes) refl ∙ sym e)
+        let end = newline_at_end compact ns in
+        (l.1, l.0, trailing_stays number (level + 1) f (in_braces ind (content_of compact ns x y)) x y x' y' (end ++ ind) nodes w v l.1 (alone (joined (newline_if compact ns) (indented s ok level))) (append_assoc y end ind))
+
+    pub braced_stays : {compact : Bool} (number level : ℕ) {b c : Before} {ns xs : Nodes} (f : DocumentFormat) (g h : Option DocumentFormat) → SpelledNodes compact number s keep (level + 1) b ns xs
+        → IsSpacedBraced compact number s level ns f b g → IsSpacedBraced compact number s level xs (or_empty_document g) c h → IsAgain number b c × (h ≡ g)
+    braced_stays {compact} number level {b} {c} {ns} {xs} f g h nodes (x, y, w, e) second =
+        let ind = indentation s level in
+        let (x', y', v, e') = subst (λ (o : Option DocumentFormat). IsSpacedBraced compact number s level xs (or_empty_document o) c h) e second in
+        let (i, l, t) = block_stays number level f nodes w (block_texts compact ind ns x y) v in
+        (i, e' ∙ ap Some (rw (l, t) (block_same compact ind x y _ _ (same_newline nodes))) ∙ sym e)

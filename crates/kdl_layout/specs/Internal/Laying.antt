@@ -39,4 +39,4 @@ EndsNodes l last ns = (b : Before) → PassesNodes l.blank_lines (settings l.con
 
 -- the second format has the texts around the nodes of a document at a level
 abbrev pub SetsContent : Layout → ℕ → Nodes → DocumentFormat → Before → Option DocumentFormat → Type 0
-SetsContent l = IsSpacedContent l.blank_lines (settings l.config)
+SetsContent l = IsSpacedContent l.compact_empty l.blank_lines (settings l.config)

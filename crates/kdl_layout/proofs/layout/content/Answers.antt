@@ -1,10 +1,8 @@
-use Rattle.kdl_layout.proofs.Common.{rules, ◌≡◌, ◌++◌, Bor, List, ℕ, ap, refl, sym, ◌∙◌, chars-nil, chars, Text, text_of, settings, without_bom}
-use Rattle.std.specs.Prelude.{is_none, unwrap_or}
-use Rattle.kdl_layout.specs.Plain.{newline_if}
+use Rattle.kdl_layout.proofs.Common.{◌++◌, ap, refl, ◌∙◌, Text, text_of, settings, without_bom}
+use Rattle.std.specs.Prelude.{unwrap_or}
 use Rattle.kdl_layout.proofs.Spacing.Reads.{lines_as}
-use Rattle.kdl_layout.proofs.Texts.{content_made, newline_text}
+use Rattle.kdl_layout.proofs.Texts.{content_made}
 use Rattle.kdl_layout.proofs.layout.content.Goals as goal
-use Rattle.kdl_layout.proofs.layout.content.Goals.{then-is_none, else-is_none}
 
 pub returns : goal.returns
 returns c = λ ns i p.
@@ -13,12 +11,7 @@ returns c = λ ns i p.
     let first = c.lines_at.new.before in
     let next = c.lines_at-2.new.before in
     let leading = text_of c.in_ok-leading.leading in
-    let trailing = text_of c.in_ok-trailing.trailing in
-    let none : c.is_none.result ≡ is_none c.args.last = search rules in
-    let end : chars c.if-is_none.end.now ≡ newline_if (is_none c.args.last) = elim c.if-is_none.branch [
-      | then-is_none w ↦ ap (λ (e : Bor (List ℕ)). chars e.now) w.end-is ∙ newline_text ∙ ap newline_if (sym w.if-is_none.true ∙ none)
-      | else-is_none w ↦ ap (λ (e : Bor (List ℕ)). chars e.now) w.end-is ∙ chars-nil ∙ ap newline_if (sym w.if-is_none.false ∙ none)
-    ] in (
+    let trailing = text_of c.in_ok-trailing.trailing in (
       leading,
       trailing,
       record {
@@ -28,5 +21,5 @@ returns c = λ ns i p.
         passes = p first;
         trailing = lines_as l.blank_lines s c.args.level next trailing c.unwrap_or-next.ensures c.texts_of.ensures.trailing c.in_ok-trailing.ensures;
       },
-      content_made leading (c.in_ok-push_text.ensures ∙ ap (λ (t : Text). trailing ++ t) (end ∙ i)),
+      content_made leading (c.in_ok-push_text.ensures ∙ ap (λ (t : Text). trailing ++ t) (c.content_end.ensures ns i)),
     )
