@@ -44,10 +44,10 @@ DocumentLaidOut s d e = IsFormattedDocument s s.indent_level (document_tree d) (
 -- m is n, laid out so with blank lines, after nothing, with the spellings, the comments inside entries and types, and the
 -- blocks on one line that the layout keeps; for documents, e is d
 abbrev pub NodeSpaced : Layout → KdlNode → KdlNode → Type 0
-NodeSpaced l n m = IsLaidNode (keeping l) l.keep_one_line l.blank_lines (settings l.config) l.config.indent_level at_start (node_tree n) (node_tree m)
+NodeSpaced l n m = IsLaidNode (keeping l) l.keep_one_line l.compact_empty l.blank_lines (settings l.config) l.config.indent_level at_start (node_tree n) (node_tree m)
 
 abbrev pub DocumentSpaced : Layout → KdlDocument → KdlDocument → Type 0
-DocumentSpaced l d e = IsLaidDocument (keeping l) l.keep_one_line l.blank_lines (settings l.config) l.config.indent_level (document_tree d) (document_tree e)
+DocumentSpaced l d e = IsLaidDocument (keeping l) l.keep_one_line l.compact_empty l.blank_lines (settings l.config) l.config.indent_level (document_tree d) (document_tree e)
 
 -- what layout makes of them without comments
 abbrev pub plain_node : Settings → KdlNode → Node

@@ -22,29 +22,31 @@ use Rattle.kdl.specs.LaysOut.{FormatsDocument, FormatsNode, KeepsComments, Keeps
 use Rattle.kdl.proofs.Finding.SaidLookups.{finds_same, node_finds_same}
 
 -- what layout makes where no block stays on one line
-laid_off : (spelling : Keeping) (line : Bool) (number : ℕ) (s : Settings) (level : ℕ) (d x : Document) → line ≡ false → IsLaidDocument spelling line number s level d x → IsSpelledDocument spelling number s level d x
-laid_off spelling true number s level d x e f = absurd cc
-laid_off spelling false number s level d x e f = subst (λ (y : Document). IsSpelledDocument spelling number s level d y) (sym (f.2 ∙ document_off d f.0)) f.1
+laid_off : (spelling : Keeping) (line compact : Bool) (number : ℕ) (s : Settings) (level : ℕ) (d x : Document) → line ≡ false → IsLaidDocument spelling line compact number s level d x → IsSpelledDocument spelling compact number s level d x
+laid_off spelling true compact number s level d x e f = absurd cc
+laid_off spelling false compact number s level d x e f = subst (λ (y : Document). IsSpelledDocument spelling compact number s level d y) (sym (f.2 ∙ document_off d f.0)) f.1
 
-node_laid_off : (spelling : Keeping) (line : Bool) (number : ℕ) (s : Settings) (level : ℕ) (n x : Node) → line ≡ false → IsLaidNode spelling line number s level at_start n x → IsSpelledNode spelling number s level at_start n x
-node_laid_off spelling true number s level n x e f = absurd cc
-node_laid_off spelling false number s level n x e f = subst (λ (y : Node). IsSpelledNode spelling number s level at_start n y) (sym (f.2 ∙ node_off n f.0)) f.1
+node_laid_off : (spelling : Keeping) (line compact : Bool) (number : ℕ) (s : Settings) (level : ℕ) (n x : Node) → line ≡ false → IsLaidNode spelling line compact number s level at_start n x → IsSpelledNode spelling compact number s level at_start n x
+node_laid_off spelling true compact number s level n x e f = absurd cc
+node_laid_off spelling false compact number s level n x e f = subst (λ (y : Node). IsSpelledNode spelling compact number s level at_start n y) (sym (f.2 ∙ node_off n f.0)) f.1
 
 -- and where neither spellings nor comments inside entries stay
-unspelled : (number : ℕ) (s : Settings) (level : ℕ) (d x : Document) → IsSpelledDocument nothing number s level d x → IsSpacedDocument number s level d x
-unspelled number s level d x (m, f, r) = subst (λ (z : Document). IsSpacedDocument number s level d z) (sym (off.same_document s d m x r)) f
+unspelled : (compact : Bool) (number : ℕ) (s : Settings) (level : ℕ) (d x : Document) → IsSpelledDocument nothing compact number s level d x → IsSpacedDocument compact number s level d x
+unspelled compact number s level d x (m, f, r) = subst (λ (z : Document). IsSpacedDocument compact number s level d z) (sym (off.same_document s d m x r)) f
 
-unspelled_node : (number : ℕ) (s : Settings) (level : ℕ) (n x : Node) → IsSpelledNode nothing number s level at_start n x → IsSpacedNode number s level at_start n x
-unspelled_node number s level n x (m, f, r) = subst (λ (z : Node). IsSpacedNode number s level at_start n z) (sym (off.same_node s n m x r)) f
+unspelled_node : (compact : Bool) (number : ℕ) (s : Settings) (level : ℕ) (n x : Node) → IsSpelledNode nothing compact number s level at_start n x → IsSpacedNode compact number s level at_start n x
+unspelled_node compact number s level n x (m, f, r) = subst (λ (z : Node). IsSpacedNode compact number s level at_start n z) (sym (off.same_node s n m x r)) f
 
--- and where no blank lines stay
-unspaced : (spelling : Keeping) (line : Bool) (number : ℕ) (s : Settings) (level : ℕ) (d x : Document) → number ≡ 0 → spelling ≡ nothing → line ≡ false → IsLaidDocument spelling line number s level d x → IsFormattedDocument s level d x
-unspaced spelling line number s level d x e k o f =
-    unspelled 0 s level d x (subst (λ (z : ℕ). IsSpelledDocument nothing z s level d x) e (subst (λ (z : Keeping). IsSpelledDocument z number s level d x) k (laid_off spelling line number s level d x o f)))
+-- and where no blank lines stay, and a newline is in place of nodes
+unspaced : (spelling : Keeping) (line compact : Bool) (number : ℕ) (s : Settings) (level : ℕ) (d x : Document) → number ≡ 0 → spelling ≡ nothing → line ≡ false → compact ≡ false → IsLaidDocument spelling line compact number s level d x → IsFormattedDocument s level d x
+unspaced spelling line compact number s level d x e k o c f =
+    let g = subst (λ (z : Keeping). IsSpelledDocument z compact number s level d x) k (laid_off spelling line compact number s level d x o f) in
+    unspelled false 0 s level d x (subst (λ (z : ℕ). IsSpelledDocument nothing false z s level d x) e (subst (λ (z : Bool). IsSpelledDocument nothing z number s level d x) c g))
 
-node_unspaced : (spelling : Keeping) (line : Bool) (number : ℕ) (s : Settings) (level : ℕ) (n x : Node) → number ≡ 0 → spelling ≡ nothing → line ≡ false → IsLaidNode spelling line number s level at_start n x → IsFormattedNode s level n x
-node_unspaced spelling line number s level n x e k o f =
-    unspelled_node 0 s level n x (subst (λ (z : ℕ). IsSpelledNode nothing z s level at_start n x) e (subst (λ (z : Keeping). IsSpelledNode z number s level at_start n x) k (node_laid_off spelling line number s level n x o f)))
+node_unspaced : (spelling : Keeping) (line compact : Bool) (number : ℕ) (s : Settings) (level : ℕ) (n x : Node) → number ≡ 0 → spelling ≡ nothing → line ≡ false → compact ≡ false → IsLaidNode spelling line compact number s level at_start n x → IsFormattedNode s level n x
+node_unspaced spelling line compact number s level n x e k o c f =
+    let g = subst (λ (z : Keeping). IsSpelledNode z compact number s level at_start n x) k (node_laid_off spelling line compact number s level n x o f) in
+    unspelled_node false 0 s level n x (subst (λ (z : ℕ). IsSpelledNode nothing false z s level at_start n x) e (subst (λ (z : Bool). IsSpelledNode nothing z number s level at_start n x) c g))
 
 -- a call that laid out a document, whose texts can be printed, or a node
 module _ {A E : Type 0} (r : Result A E) (l : Layout) where
@@ -63,20 +65,20 @@ module _ {A E : Type 0} (r : Result A E) (l : Layout) where
       «data» = same;
       finds = finds_same d e same;
       kept = kept;
-      levels = on_ok_weaker r (λ (f : DocumentIsSpaced l d e). spaced.document_levels_fit l.blank_lines s s.indent_level old f.0.1.0 f.0.1.1) laid;
+      levels = on_ok_weaker r (λ (f : DocumentIsSpaced l d e). spaced.document_levels_fit l.compact_empty l.blank_lines s s.indent_level old f.0.1.0 f.0.1.1) laid;
       keeps_none = on_ok_weaker r
           (λ (p : DocumentIsSpaced l d e). let f = p.0 in
-          subst DocumentKeepsNone (sym f.2) (on_line.document_keeps_none l.keep_one_line old f.0 (left.document_keeps_none (keeping l) s old f.1.0 f.0 (spaced.document_keeps_none l.blank_lines s s.indent_level old f.1.0 f.1.1) f.1.2)))
+          subst DocumentKeepsNone (sym f.2) (on_line.document_keeps_none l.keep_one_line old f.0 (left.document_keeps_none (keeping l) s old f.1.0 f.0 (spaced.document_keeps_none l.compact_empty l.blank_lines s s.indent_level old f.1.0 f.1.1) f.1.2)))
           laid;
     }
 
     pub rereads_document : (IndentsBySpaces s → DocumentKeepsReading s d → DocumentReadsBack d → DocumentReadsBack e) → IndentsBySpaces s → RereadsDocument s d e r
     rereads_document back ok = record {
       reads_back = back ok;
-      derived = λ flag. on_ok_weaker r (λ (f : DocumentIsSpaced l d e). λ none. document_derived l.blank_lines s ok l.keep_one_line flag (keeping l) s.indent_level old (document_tree e) f.0 none f.1 same) laid;
+      derived = λ flag. on_ok_weaker r (λ (f : DocumentIsSpaced l d e). λ none. document_derived l.compact_empty l.blank_lines s ok l.keep_one_line flag (keeping l) s.indent_level old (document_tree e) f.0 none f.1 same) laid;
       comments = λ flag with. on_ok_weaker r
           (λ (p : DocumentIsSpaced l d e). λ none y is i h. let f = p.0 in
-          comments_stay false l.blank_lines s ok with l.keep_one_line s.indent_level 0 old f.0 y is i (written_document l.blank_lines s flag (keeping l) s.indent_level old f.1.0 f.0 f.1.1 f.1.2 none p.1) (λ e. absurd cc)
+          comments_stay false l.compact_empty l.blank_lines s ok with l.keep_one_line s.indent_level 0 old f.0 y is i (written_document l.compact_empty l.blank_lines s flag (keeping l) s.indent_level old f.1.0 f.0 f.1.1 f.1.2 none p.1) (λ e. absurd cc)
           (subst (λ (z : Document). LaidDocument y (print_document z 0)) f.2 h))
           laid;
       reads = on_ok_weaker r (λ (f : DocumentIsSpaced l d e). canonical_reads s.indent ok s.indent_level (document_says d) f.1) laid;
@@ -85,13 +87,13 @@ module _ {A E : Type 0} (r : Result A E) (l : Layout) where
     pub keeps_comments : KeepsComments l d e r
     keeps_comments on with ok flag = on_ok_weaker r
         (λ (p : DocumentIsSpaced l d e). λ none y is i h. let f = p.0 in
-        comments_stay true l.blank_lines s ok with l.keep_one_line s.indent_level 0 old f.0 y is i (written_document l.blank_lines s flag (keeping l) s.indent_level old f.1.0 f.0 f.1.1 f.1.2 none p.1) (λ z. on)
+        comments_stay true l.compact_empty l.blank_lines s ok with l.keep_one_line s.indent_level 0 old f.0 y is i (written_document l.compact_empty l.blank_lines s flag (keeping l) s.indent_level old f.1.0 f.0 f.1.1 f.1.2 none p.1) (λ z. on)
         (subst (λ (z : Document). LaidDocument y (print_document z 0)) f.2 h))
         laid
 
-    pub formats_document : l.blank_lines ≡ 0 → keeping l ≡ nothing → l.keep_one_line ≡ false → FormatsDocument s d e r
-    formats_document blank spelling line =
-        let f : DocumentIsSpaced l d e → DocumentLaidOut s d e = λ h. unspaced (keeping l) l.keep_one_line l.blank_lines s s.indent_level old (document_tree e) blank spelling line h.0 in
+    pub formats_document : l.blank_lines ≡ 0 → keeping l ≡ nothing → l.keep_one_line ≡ false → l.compact_empty ≡ false → FormatsDocument s d e r
+    formats_document blank spelling line compact =
+        let f : DocumentIsSpaced l d e → DocumentLaidOut s d e = λ h. unspaced (keeping l) l.keep_one_line l.compact_empty l.blank_lines s s.indent_level old (document_tree e) blank spelling line compact h.0 in
         record {
           formatted = on_ok_weaker r f laid;
           plain = λ no. on_ok_weaker r (λ (h : DocumentIsSpaced l d e). layout.document_left_out s s.indent_level old (document_tree e) no (f h)) laid;
@@ -116,20 +118,20 @@ module _ {A E : Type 0} (r : Result A E) (l : Layout) where
       «data» = same_node;
       finds = node_finds_same n m same_node;
       kept = kept;
-      levels = on_ok_weaker r (λ (f : IsLaid). spaced.levels_fit l.blank_lines s s.indent_level at_start old_node f.0.1.0 f.0.1.1) laid;
+      levels = on_ok_weaker r (λ (f : IsLaid). spaced.levels_fit l.compact_empty l.blank_lines s s.indent_level at_start old_node f.0.1.0 f.0.1.1) laid;
       keeps_none = on_ok_weaker r
           (λ (p : IsLaid). let f = p.0 in
-          subst NodeKeepsNone (sym f.2) (on_line.node_keeps_none l.keep_one_line old_node f.0 (left.keeps_none (keeping l) s old_node f.1.0 f.0 (spaced.keeps_none l.blank_lines s s.indent_level at_start old_node f.1.0 f.1.1) f.1.2)))
+          subst NodeKeepsNone (sym f.2) (on_line.node_keeps_none l.keep_one_line old_node f.0 (left.keeps_none (keeping l) s old_node f.1.0 f.0 (spaced.keeps_none l.compact_empty l.blank_lines s s.indent_level at_start old_node f.1.0 f.1.1) f.1.2)))
           laid;
     }
 
     pub rereads_node : (IndentsBySpaces s → StaysAs s (node_tree n) (node_tree m)) → IndentsBySpaces s → RereadsNode s n m r
     rereads_node stays ok = record {
       reads_back = λ k P h. (stays ok P (h, k)).0;
-      derived = λ flag. on_ok_weaker r (λ (f : IsLaid). λ none. node_derived l.blank_lines s ok l.keep_one_line flag (keeping l) s.indent_level at_start old_node (node_tree m) f.0 none f.1 same_node) laid;
+      derived = λ flag. on_ok_weaker r (λ (f : IsLaid). λ none. node_derived l.compact_empty l.blank_lines s ok l.keep_one_line flag (keeping l) s.indent_level at_start old_node (node_tree m) f.0 none f.1 same_node) laid;
       comments = λ flag with. on_ok_weaker r
           (λ (p : IsLaid). λ none z is i h. let f = p.0 in
-          node_comments_stay false l.blank_lines s ok with l.keep_one_line s.indent_level 0 at_start old_node f.0 z is i (written_node l.blank_lines s flag (keeping l) s.indent_level at_start old_node f.1.0 f.0 f.1.1 f.1.2 none p.1) (λ e. absurd cc)
+          node_comments_stay false l.compact_empty l.blank_lines s ok with l.keep_one_line s.indent_level 0 at_start old_node f.0 z is i (written_node l.compact_empty l.blank_lines s flag (keeping l) s.indent_level at_start old_node f.1.0 f.0 f.1.1 f.1.2 none p.1) (λ e. absurd cc)
           (subst (λ (w : Node). LaidDocument z (print_node w 0)) f.2 h))
           laid;
       reads = on_ok_weaker r (λ (f : IsLaid). canonical_node_reads s.indent ok s.indent_level (node_says n) f.1) laid;
@@ -138,13 +140,13 @@ module _ {A E : Type 0} (r : Result A E) (l : Layout) where
     pub node_keeps_comments : NodeKeepsComments l n m r
     node_keeps_comments on with ok flag = on_ok_weaker r
         (λ (p : IsLaid). λ none z is i h. let f = p.0 in
-        node_comments_stay true l.blank_lines s ok with l.keep_one_line s.indent_level 0 at_start old_node f.0 z is i (written_node l.blank_lines s flag (keeping l) s.indent_level at_start old_node f.1.0 f.0 f.1.1 f.1.2 none p.1) (λ e. on)
+        node_comments_stay true l.compact_empty l.blank_lines s ok with l.keep_one_line s.indent_level 0 at_start old_node f.0 z is i (written_node l.compact_empty l.blank_lines s flag (keeping l) s.indent_level at_start old_node f.1.0 f.0 f.1.1 f.1.2 none p.1) (λ e. on)
         (subst (λ (w : Node). LaidDocument z (print_node w 0)) f.2 h))
         laid
 
-    pub formats_node : l.blank_lines ≡ 0 → keeping l ≡ nothing → l.keep_one_line ≡ false → FormatsNode s n m r
-    formats_node blank spelling line =
-        let f : IsLaid → NodeLaidOut s n m = λ h. node_unspaced (keeping l) l.keep_one_line l.blank_lines s s.indent_level old_node (node_tree m) blank spelling line h.0 in
+    pub formats_node : l.blank_lines ≡ 0 → keeping l ≡ nothing → l.keep_one_line ≡ false → l.compact_empty ≡ false → FormatsNode s n m r
+    formats_node blank spelling line compact =
+        let f : IsLaid → NodeLaidOut s n m = λ h. node_unspaced (keeping l) l.keep_one_line l.compact_empty l.blank_lines s s.indent_level old_node (node_tree m) blank spelling line compact h.0 in
         record {
           formatted = on_ok_weaker r f laid;
           plain = λ no. on_ok_weaker r (λ (h : IsLaid). layout.left_out s s.indent_level at_start old_node (node_tree m) no (f h)) laid;

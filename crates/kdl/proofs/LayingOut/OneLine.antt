@@ -45,7 +45,7 @@ on_one : (keep : Bool) (d d' : Document) → (keep && is_on_one_line d) ≡ true
 on_one keep d d' e = rw e refl
 
 module _ (l : Layout) (level : ℕ) (f : Option DocumentFormat) (at : SourceSpan) (ns : List KdlNode) (c : Before) (g : DocumentFormat) (a : Around)
-    (braced : IsSpacedBraced l.blank_lines (settings l.config) level (nodes_tree ns) (or_empty_document f) c (Some g)) (ms : List Node) (z : NodesAreSpaced l (level + 1) c (map node_tree ns) ms) where
+    (braced : IsSpacedBraced l.compact_empty l.blank_lines (settings l.config) level (nodes_tree ns) (or_empty_document f) c (Some g)) (ms : List Node) (z : NodesAreSpaced l (level + 1) c (map node_tree ns) ms) where
   abbrev old : Document
   old = document f at (nodes_tree ns)
 
@@ -59,13 +59,13 @@ module _ (l : Layout) (level : ℕ) (f : Option DocumentFormat) (at : SourceSpan
   new = document (Some (document_format_tree a.braces)) at (listed_nodes (with_formats (map node_format_tree a.line.items) ms))
 
   -- each node is on lines of its own
-  on_lines : AreLined l.blank_lines (settings l.config) (level + 1) c (nodes_tree ns) (listed_nodes w.nodes)
-  on_lines = parts.lined l.blank_lines (settings l.config) (keeping l) (level + 1) c (nodes_tree ns) (listed_nodes w.between) (listed_nodes w.nodes) w.spaced w.respelled
+  on_lines : AreLined l.compact_empty l.blank_lines (settings l.config) (level + 1) c (nodes_tree ns) (listed_nodes w.nodes)
+  on_lines = parts.lined l.compact_empty l.blank_lines (settings l.config) (keeping l) (level + 1) c (nodes_tree ns) (listed_nodes w.between) (listed_nodes w.nodes) w.spaced w.respelled
 
   -- the nodes end by themselves
   nodes_end : list_all is_space (settings l.config).indent ≡ true → BlockReads (document f at (listed_nodes ms)) → NodesRead Anything (one_lined_nodes l.keep_one_line (nodes_tree ns) (listed_nodes w.nodes))
   nodes_end ok (block y) =
-      content_ends l.blank_lines (settings l.config) ok l.keep_one_line (level + 1) c (nodes_tree ns) (listed_nodes w.nodes) on_lines (subst (λ (x : Nodes). ContentReads (BlockEnd f) (leading_text f) (trailing_text f) x) w.same y)
+      content_ends l.compact_empty l.blank_lines (settings l.config) ok l.keep_one_line (level + 1) c (nodes_tree ns) (listed_nodes w.nodes) on_lines (subst (λ (x : Nodes). ContentReads (BlockEnd f) (leading_text f) (trailing_text f) x) w.same y)
 
   module _ (e : (l.keep_one_line && is_on_one_line old) ≡ false) (b : document_format_tree a.braces ≡ g) (n : a.line.items ≡ []) where
     more_is : new ≡ document (Some g) at (listed_nodes ms)
@@ -79,7 +79,7 @@ module _ (l : Layout) (level : ℕ) (f : Option DocumentFormat) (at : SourceSpan
     more_reads : list_all is_space (settings l.config).indent ≡ true → BlockReads (document f at (listed_nodes ms)) → BlockReads new
     more_reads ok x =
         subst BlockReads (sym more_is)
-        (braced_reads l.blank_lines (settings l.config) ok level (nodes_tree ns) (or_empty_document f) c (Some g) at (listed_nodes ms) braced (subst (NodesRead Anything) (sym w.same) (nodes_end ok x)))
+        (braced_reads l.blank_lines (settings l.config) ok l.compact_empty level (nodes_tree ns) (or_empty_document f) c (Some g) at (listed_nodes ms) braced (subst (NodesRead Anything) (sym w.same) (nodes_end ok x)))
 
   module _ (e : (l.keep_one_line && is_on_one_line old) ≡ true) (b : document_format_tree a.braces ≡ braces_in_line) (n : map node_format_tree a.line.items ≡ formats_in_line (length ns)) where
     on_line : nodes_on_line (nodes_tree ns) ≡ true
@@ -99,7 +99,7 @@ module _ (l : Layout) (level : ℕ) (f : Option DocumentFormat) (at : SourceSpan
     one_reads : list_all is_space (settings l.config).indent ≡ true → BlockReads (document f at (listed_nodes ms)) → BlockReads new
     one_reads ok x =
         subst BlockReads (sym one_is)
-        (one_line_reads l.blank_lines (settings l.config) (level + 1) c (nodes_tree ns) (listed_nodes w.nodes) at on_line on_lines (subst (NodesRead Anything) flat (nodes_end ok x)))
+        (one_line_reads l.compact_empty l.blank_lines (settings l.config) (level + 1) c (nodes_tree ns) (listed_nodes w.nodes) at on_line on_lines (subst (NodesRead Anything) flat (nodes_end ok x)))
 
   alike : (b : Bool) → (l.keep_one_line && is_on_one_line old) ≡ b → IsAroundIf b (length ns) g a → children new ≡ one_lined_children l.keep_one_line (children old) (children mid)
   alike true e q = one_same e q.0 q.1
@@ -111,7 +111,7 @@ module _ (l : Layout) (level : ℕ) (f : Option DocumentFormat) (at : SourceSpan
 
 -- the block of a document
 pub document_block : (l : Layout) (level : ℕ) (d : KdlDocument) (c : Before) (g : DocumentFormat) (a : Around)
-    → IsSpacedBraced l.blank_lines (settings l.config) level (nodes_tree (out-KdlDocument d).nodes.items) (or_empty_document (option_map document_format_tree (out-KdlDocument d).format)) c (Some g)
+    → IsSpacedBraced l.compact_empty l.blank_lines (settings l.config) level (nodes_tree (out-KdlDocument d).nodes.items) (or_empty_document (option_map document_format_tree (out-KdlDocument d).format)) c (Some g)
     → IsAround l d g a → level + 1 < 2 ^ 64 → BlockIsSpaced l level (Some d) c (Some a)
 document_block l level d c g a braced around fits ms z =
     let D = out-KdlDocument d in
@@ -128,7 +128,7 @@ document_block l level d c g a braced around fits ms z =
       braces = Some g;
       between = made.between;
       nodes = made.nodes;
-      spaced = subst (λ (x : Document). IsSpacedChildren l.blank_lines s level (children x) (children (document (Some g) D.span (listed_nodes made.between)))) (sym (document_tree_out d)) (c, braced, refl, made.spaced, fits);
+      spaced = subst (λ (x : Document). IsSpacedChildren l.compact_empty l.blank_lines s level (children x) (children (document (Some g) D.span (listed_nodes made.between)))) (sym (document_tree_out d)) (c, braced, refl, made.spaced, fits);
       respelled = made.respelled;
       same = subst (λ (x : Document). children new' ≡ one_lined_children keep (children x) (children mid')) (sym (document_tree_out d)) (alike l level f D.span ns c g a braced ms z (keep && is_on_one_line old') refl there);
       stays = λ ok h P x. (
@@ -170,5 +170,5 @@ pub own_spaced : (l : Layout) (m n : KdlNode) (level : ℕ) (c : Before) (b : Bo
     → (out-KdlNode m).span ≡ (out-KdlNode n).span → (out-KdlNode m).children ≡ (out-KdlNode n).children → BlockSpacing l level (out-KdlNode n).children g ms → IsWellFormedNode (node_data (node_tree n))
     → NodeIsSpaced l level c (node_tree n) (enclosed g m ms) × (IndentsBySpaces (settings l.config) → StaysAs (settings l.config) (filled m ms) (enclosed g m ms))
 own_spaced l m n level c b g ms has kt kn keeps_type keeps_name ty name entries f line typed span is w fit =
-    let mid = laid_node m n (keeping l) l.blank_lines (settings l.config) level c b w.between w.nodes has kt kn keeps_type keeps_name ty name entries f line typed span (out-KdlNode n).children is refl w.braces w.spaced w.respelled in
+    let mid = laid_node m n (keeping l) l.compact_empty l.blank_lines (settings l.config) level c b w.between w.nodes has kt kn keeps_type keeps_name ty name entries f line typed span (out-KdlNode n).children is refl w.braces w.spaced w.respelled in
     (((with_braces w.braces (filled m w.nodes), mid, one_lined l m n is g ms w.braces w.nodes w.same), fit), λ ok. enclosed_stays l m n is g ms (w.stays ok))

@@ -11,7 +11,7 @@ use Rattle.kdl.proofs.Trees.{node_tree_out, document_tree_out}
 pub record NodesLaid (l : Layout) (level : ℕ) (b : Before) (ns ms : List Node) : Type 0 where
   pub between : List Node
   pub nodes : List Node
-  pub spaced : AreSpacedNodes l.blank_lines (settings l.config) level b (listed_nodes ns) (listed_nodes between)
+  pub spaced : AreSpacedNodes l.compact_empty l.blank_lines (settings l.config) level b (listed_nodes ns) (listed_nodes between)
   pub respelled : AreRespelledNodes (keeping l) (settings l.config) (listed_nodes ns) (listed_nodes between) (listed_nodes nodes)
   pub same : listed_nodes ms ≡ one_lined_nodes l.keep_one_line (listed_nodes ns) (listed_nodes nodes)
 
@@ -56,7 +56,7 @@ respelled_block keep s (Some d) x xs ms r = rw (document_tree_out d) (refl, refl
 
 -- a node of which the parts are known
 module _ (m n : KdlNode) where
-  pub laid_node : (keep : Keeping) (number : ℕ) (s : Settings) (level : ℕ) (c : Before) (b : Bool) (xs ms : List Node) → b ≡ is_some (out-KdlNode n).children
+  pub laid_node : (keep : Keeping) (compact : Bool) (number : ℕ) (s : Settings) (level : ℕ) (c : Before) (b : Bool) (xs ms : List Node) → b ≡ is_some (out-KdlNode n).children
       → (keeps_type keeps_name : SpellingRule) → Keeps keep.spelling (option_map identifier_tree (out-KdlNode n).ty) keeps_type → KeepsName keep.spelling (identifier_tree (out-KdlNode n).name) keeps_name
       → option_map identifier_tree (out-KdlNode m).ty ≡ with_spelling_if keeps_type (option_map identifier_tree (out-KdlNode n).ty)
       → identifier_tree (out-KdlNode m).name ≡ with_spelling keeps_name (identifier_tree (out-KdlNode n).name)
@@ -65,10 +65,10 @@ module _ (m n : KdlNode) where
       → IsTypedFormat (keeps_texts keep && not s.no_comments && is_some (option_map identifier_tree (out-KdlNode n).ty)) (or_empty (option_map node_format_tree (out-KdlNode n).format)) f (option_map node_format_tree (out-KdlNode m).format)
       → (out-KdlNode m).span ≡ (out-KdlNode n).span
       → (o : Option KdlDocument) → (out-KdlNode m).children ≡ o → o ≡ (out-KdlNode n).children
-      → (x : Option DocumentFormat) → IsSpacedChildren number s level (children_of (option_map document_tree (out-KdlNode n).children)) (with_texts x (filled_block o xs))
+      → (x : Option DocumentFormat) → IsSpacedChildren compact number s level (children_of (option_map document_tree (out-KdlNode n).children)) (with_texts x (filled_block o xs))
       → AreRespelledNodes keep s (nodes_tree (child_nodes n)) (listed_nodes xs) (listed_nodes ms)
-      → IsSpelledNode keep number s level c (node_tree n) (with_braces x (filled m ms))
-  laid_node keep number s level c b xs ms e kt kn keeps_type keeps_name ty' name' (es, entries, spellings) f line typed span o is was x k r =
+      → IsSpelledNode keep compact number s level c (node_tree n) (with_braces x (filled m ms))
+  laid_node keep compact number s level c b xs ms e kt kn keeps_type keeps_name ty' name' (es, entries, spellings) f line typed span o is was x k r =
       let N = out-KdlNode n in
       let o' = option_map identifier_tree N.ty in
       let i = identifier_tree N.name in
@@ -96,9 +96,9 @@ module _ (m d : KdlDocument) (span : (out-KdlDocument m).span ≡ (out-KdlDocume
         ap bare_document (document_tree_out m) ∙ bare_content (option_map document_format_tree (out-KdlDocument m).format) (option_map document_format_tree (out-KdlDocument d).format) _ _ _ _ span k' ∙ sym (ap bare_document (document_tree_out d))
 
     pub laid_content : (l : Layout) (level : ℕ) (b : Before) (f : Option DocumentFormat) → option_map document_format_tree (out-KdlDocument m).format ≡ f
-        → IsSpacedContent l.blank_lines (settings l.config) level (nodes_tree (out-KdlDocument d).nodes.items) (or_empty_document (option_map document_format_tree (out-KdlDocument d).format)) b f
+        → IsSpacedContent l.compact_empty l.blank_lines (settings l.config) level (nodes_tree (out-KdlDocument d).nodes.items) (or_empty_document (option_map document_format_tree (out-KdlDocument d).format)) b f
         → NodesAreSpaced l level b (map node_tree (out-KdlDocument d).nodes.items) (map node_tree v.items)
-        → IsLaidDocument (keeping l) l.keep_one_line l.blank_lines (settings l.config) level (document_tree d) (document_tree m)
+        → IsLaidDocument (keeping l) l.keep_one_line l.compact_empty l.blank_lines (settings l.config) level (document_tree d) (document_tree m)
     laid_content l level b f g c k =
         let M = out-KdlDocument m in
         let D = out-KdlDocument d in

@@ -194,7 +194,7 @@ all_stays l level before olds xs above above' b b' empty holds start y t next tr
 -- a document of which the nodes are others, and the texts around them are laid out
 pub document_stays : (l : Layout) → list_all is_space (settings l.config).indent ≡ true → (level : ℕ) (b : Before) (d m : KdlDocument) → (out-KdlDocument m).span ≡ (out-KdlDocument d).span
     → (v : Vec KdlNode Global) → (out-KdlDocument m).nodes ≡ v → (g : Option DocumentFormat) → option_map document_format_tree (out-KdlDocument m).format ≡ g
-    → IsSpacedContent l.blank_lines (settings l.config) level (nodes_tree (out-KdlDocument d).nodes.items) (or_empty_document (option_map document_format_tree (out-KdlDocument d).format)) b g
+    → IsSpacedContent l.compact_empty l.blank_lines (settings l.config) level (nodes_tree (out-KdlDocument d).nodes.items) (or_empty_document (option_map document_format_tree (out-KdlDocument d).format)) b g
     → StayAs (settings l.config) (map node_tree (out-KdlDocument d).nodes.items) (map node_tree v.items)
     → DocumentKeepsReading (settings l.config) (document_tree d) → DocumentReads (document_tree d) → DocumentReads (document_tree m)
 document_stays l ok level b d m span v holds g is c a k x =
@@ -205,7 +205,7 @@ document_stays l ok level b d m span v holds g is c a k x =
     let ns = map node_tree D.nodes.items in
     let old : DocumentReads (document f D.span (listed_nodes ns)) = subst DocumentReads (document_tree_out d) x in
     let keep : DocumentKeepsReading s (document f D.span (listed_nodes ns)) = subst (DocumentKeepsReading s) (document_tree_out d) k in
-    let new : DocumentReads (document g D.span (listed_nodes (map node_tree v.items))) = whole_as g D.span D.span _ _ (λ t z. (content_stays s ns (map node_tree v.items) a z keep).0) (document_reads l.blank_lines s ok level b f g D.span (listed_nodes ns) c old) in
+    let new : DocumentReads (document g D.span (listed_nodes (map node_tree v.items))) = whole_as g D.span D.span _ _ (λ t z. (content_stays s ns (map node_tree v.items) a z keep).0) (document_reads l.blank_lines s ok l.compact_empty level b f g D.span (listed_nodes ns) c old) in
     subst DocumentReads (sym (document_tree_out m))
     (subst (λ (z : Option DocumentFormat). DocumentReads (document z M.span (nodes_tree M.nodes.items))) (sym is)
     (subst (λ (z : SourceSpan). DocumentReads (document g z (nodes_tree M.nodes.items))) (sym span)

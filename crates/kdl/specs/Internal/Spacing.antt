@@ -90,7 +90,7 @@ whole above inner = outermost above (map node_tree inner.nodes.items)
 
 -- the second node is the first one, laid out after what comes before it, and its texts can be printed
 abbrev pub NodeIsSpaced : Layout → ℕ → Before → Node → Node → Type 0
-NodeIsSpaced l level b n n' = IsLaidNode (keeping l) l.keep_one_line l.blank_lines (settings l.config) level b n n' × IsWellFormedNode (node_data n)
+NodeIsSpaced l level b n n' = IsLaidNode (keeping l) l.keep_one_line l.compact_empty l.blank_lines (settings l.config) level b n n' × IsWellFormedNode (node_data n)
 
 -- so is the second document the first one
 abbrev pub DocumentIsSpaced : Layout → KdlDocument → KdlDocument → Type 0
@@ -146,7 +146,7 @@ pub record BlockSpacing (l : Layout) (level : ℕ) (o : Option KdlDocument) (g :
   pub braces : Option DocumentFormat
   pub between : List Node
   pub nodes : List Node
-  pub spaced : IsSpacedChildren l.blank_lines (settings l.config) level (children_of (option_map document_tree o)) (with_texts braces (filled_block o between))
+  pub spaced : IsSpacedChildren l.compact_empty l.blank_lines (settings l.config) level (children_of (option_map document_tree o)) (with_texts braces (filled_block o between))
   pub respelled : AreRespelledNodes (keeping l) (settings l.config) (nodes_tree (nodes_in o)) (listed_nodes between) (listed_nodes nodes)
   pub same : with_texts (braces_of g) (filled_block o (lined g ms)) ≡ one_lined_children l.keep_one_line (children_of (option_map document_tree o)) (with_texts braces (filled_block o nodes))
   pub stays : IndentsBySpaces (settings l.config) → (h : Head) → StaysAs (settings l.config) (node h (filled_block o ms)) (node h (with_texts (braces_of g) (filled_block o (lined g ms))))

@@ -93,6 +93,7 @@ impl KdlDocument {
             keep_spelling: false,
             keep_inner_comments: false,
             keep_one_line: false,
+            compact_empty: false,
         };
         self.autoformat_layout(&layout)
     }
@@ -104,7 +105,9 @@ impl KdlDocument {
     /// does a text before an entry that continues the line; an entry that is flagged to keep its form is laid out as
     /// without that. If the layout keeps comments inside entries and types, these stay even if spellings do not. If the
     /// layout keeps blocks on one line, a block that prints one line, without comments and without blocks in it, is put on
-    /// one line: `{ a 1; b 2 }`, or `{}` without nodes.
+    /// one line: `{ a 1; b 2 }`, or `{}` without nodes. If the layout is compact where there are no nodes, a document or
+    /// a block without nodes ends after its last comment; without comments the document prints nothing, and the block
+    /// `{}`.
     ///
     /// Returns an error as `autoformat_config` does, or if a number of newlines would exceed `usize::MAX`. What it leaves
     /// is the same.
@@ -116,6 +119,9 @@ impl KdlDocument {
     /// let layout = Layout { keep_spelling: true, ..Layout::new() };
     /// let mut document = KdlDocument::parse(alloc, "a   0x10;\"b\"")?;
     /// document.autoformat_layout(&layout)?; // prints `a 0x10` and `"b"`
+    /// let layout = Layout { compact_empty: true, ..Layout::new() };
+    /// let mut document = KdlDocument::parse(alloc, "a {\n} // b\nc {\n// d\n\n}")?;
+    /// document.autoformat_layout(&layout)?; // prints `a {} // b`, `c {`, `// d` and `}`, each on its own line
     /// ```
     pub fn autoformat_layout(&mut self, layout: &Layout) -> Result<(), AllocError>
         ensures keeps { KeepsDocument (settings layout.now.config) self.old self.new result }
@@ -125,6 +131,7 @@ impl KdlDocument {
         ensures formatted { OnOk result (DocumentSpaced layout.now self.old self.new) }
         ensures unspaced { layout.now.blank_lines ≡ 0
             → keeping layout.now ≡ nothing → layout.now.keep_one_line ≡ false
+            → layout.now.compact_empty ≡ false
             → FormatsDocument (settings layout.now.config) self.old self.new result }
     {
         self.lay_out(layout)
@@ -156,7 +163,7 @@ impl KdlDocument {
         ensures fits { OnOk result (level + 1 < 2 ^ 64) }
         ensures formatted { IfOk result (λ (braces, first).
             chars before.now ≡ indentation (settings layout.now.config) level
-            → IsSpacedBraced layout.now.blank_lines (settings layout.now.config) level
+            → IsSpacedBraced layout.now.compact_empty layout.now.blank_lines (settings layout.now.config) level
             (nodes_tree (out-KdlDocument self.now).nodes.items)
             (or_empty_document (option_map document_format_tree (out-KdlDocument self.now).format))
             first (Some (document_format_tree braces))) }
@@ -181,7 +188,7 @@ impl KdlDocument {
         ensures formatted { IfOk result (λ (around, first).
             chars before.now ≡ indentation (settings layout.now.config) level
             → (braces : DocumentFormat)
-            × IsSpacedBraced layout.now.blank_lines (settings layout.now.config) level
+            × IsSpacedBraced layout.now.compact_empty layout.now.blank_lines (settings layout.now.config) level
             (nodes_tree (out-KdlDocument self.now).nodes.items)
             (or_empty_document (option_map document_format_tree (out-KdlDocument self.now).format))
             first (Some braces)

@@ -100,6 +100,7 @@ impl KdlNode {
             keep_spelling: false,
             keep_inner_comments: false,
             keep_one_line: false,
+            compact_empty: false,
         };
         self.autoformat_layout(&layout)
     }
@@ -126,6 +127,7 @@ impl KdlNode {
         ensures formatted { OnOk result (NodeSpaced layout.now self.old self.new) }
         ensures unspaced { layout.now.blank_lines ≡ 0
             → keeping layout.now ≡ nothing → layout.now.keep_one_line ≡ false
+            → layout.now.compact_empty ≡ false
             → FormatsNode (settings layout.now.config) self.old self.new result }
     {
         self.lay_out_alone(layout)
