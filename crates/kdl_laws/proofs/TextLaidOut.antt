@@ -1,5 +1,5 @@
 -- A text that is laid out.
-use Rattle.kdl_laws.proofs.Common.{◌≡◌, Global, String, string_bytes, refl, subst, sym, true, encode_utf8_all, list_all, Text, is_space, text_of, Settings, defaults, settings, IsLaidDocument, document_stays, document_prints, document_tree, KdlDocument}
+use Rattle.kdl_laws.proofs.Common.{◌≡◌, Global, String, string_bytes, refl, subst, sym, true, false, encode_utf8_all, list_all, Text, is_space, text_of, Settings, defaults, settings, IsLaidDocument, document_stays, document_prints, document_tree, KdlDocument}
 use Rattle.kdl_grammar.specs.Laid.{LaidDocument}
 use Rattle.kdl_layout.specs.Config.{keeping}
 use Rattle.kdl_layout.specs.Comments.{CommentsStay}
@@ -24,16 +24,16 @@ text_laid_out text d e s laid none formatted comments h =
       formatted = formatted;
       prints = p;
       comments = subst (CommentsStay (document_tree d)) (sym p) comments;
-      again = λ y g. document_stays 0 defaults 0 spaces_are refl (document_tree d) (document_tree e) y formatted none g;
+      again = λ y g. document_stays false 0 defaults 0 spaces_are refl (document_tree d) (document_tree e) y formatted none g;
     }
 
 -- the same with blank lines
 pub text_spaced_out : (text : Text) (l : Layout) (d e : KdlDocument) (s : String Global) → settings l.config ≡ defaults → LaidDocument (document_tree d) text → DocumentKeepsNoForm d → DocumentSpaced l d e
-    → CommentsStay (document_tree d) (document_prints e) → string_bytes s ≡ encode_utf8_all (document_prints e) → IsSpacedOut (keeping l) l.keep_one_line l.blank_lines text (text_of s)
+    → CommentsStay (document_tree d) (document_prints e) → string_bytes s ≡ encode_utf8_all (document_prints e) → IsSpacedOut (keeping l) l.keep_one_line l.compact_empty l.blank_lines text (text_of s)
 text_spaced_out text l d e s is laid none formatted comments h =
     let p = printed e s h in
-    let f : IsLaidDocument (keeping l) l.keep_one_line l.blank_lines defaults 0 (document_tree d) (document_tree e) =
-    subst (λ (x : Settings). IsLaidDocument (keeping l) l.keep_one_line l.blank_lines x x.indent_level (document_tree d) (document_tree e)) is formatted in
+    let f : IsLaidDocument (keeping l) l.keep_one_line l.compact_empty l.blank_lines defaults 0 (document_tree d) (document_tree e) =
+    subst (λ (x : Settings). IsLaidDocument (keeping l) l.keep_one_line l.compact_empty l.blank_lines x x.indent_level (document_tree d) (document_tree e)) is formatted in
     record {
       before = document_tree d;
       after = document_tree e;
@@ -41,5 +41,5 @@ text_spaced_out text l d e s is laid none formatted comments h =
       formatted = f;
       prints = p;
       comments = subst (CommentsStay (document_tree d)) (sym p) comments;
-      again = λ y g. line.document_stays l.blank_lines defaults spaces_are l.keep_one_line refl (keeping l) 0 (document_tree d) (document_tree e) y f none g;
+      again = λ y g. line.document_stays l.compact_empty l.blank_lines defaults spaces_are l.keep_one_line refl (keeping l) 0 (document_tree d) (document_tree e) y f none g;
     }

@@ -20,12 +20,12 @@ pub record IsLaidOut (text out : Text) : Type 0 where
   pub again : (y : Document) → IsFormattedDocument defaults 0 after y → y ≡ after
 
 -- the same if blank lines are kept, at most a number of them between two nodes or comments, and what `keep` keeps inside
--- nodes, and blocks stay on one line if `line` is true
-pub record IsSpacedOut (keep : Keeping) (line : Bool) (number : ℕ) (text out : Text) : Type 0 where
+-- nodes, blocks stay on one line if `line` is true, and no newline is in place of nodes if `compact` is true
+pub record IsSpacedOut (keep : Keeping) (line compact : Bool) (number : ℕ) (text out : Text) : Type 0 where
   pub before : Document
   pub after : Document
   pub laid : LaidDocument before text
-  pub formatted : IsLaidDocument keep line number defaults 0 before after
+  pub formatted : IsLaidDocument keep line compact number defaults 0 before after
   pub prints : out ≡ print_document after 0
   pub comments : CommentsStay before out
-  pub again : (y : Document) → IsLaidDocument keep line number defaults 0 after y → y ≡ after
+  pub again : (y : Document) → IsLaidDocument keep line compact number defaults 0 after y → y ≡ after

@@ -99,50 +99,50 @@ pub fn spaced_twice(document: &mut KdlDocument, layout: &Layout) -> Result<(), A
     document.autoformat_layout(layout)
 }
 
-/// A second layout with the same fields changes nothing, whatever is kept inside nodes, and whether blocks stay on one
-/// line or not:
-/// if the indent is of spaces and no entry is flagged, layout of its own result is that result.
+/// A second layout with the same fields changes nothing, whatever is kept inside nodes, whether blocks stay on one line
+/// or not, and whether a newline is in place of nodes or not: if the indent is of spaces and no entry is flagged, layout
+/// of its own result is that result.
 pub fn second_spaced_layout()
-    ensures document { (keep : Keeping) (line : Bool) (number : ℕ) (s : Settings) (level : ℕ)
+    ensures document { (keep : Keeping) (line compact : Bool) (number : ℕ) (s : Settings) (level : ℕ)
         → (d x y : Document) → IndentsBySpaces s
         → s.entry_autoformate_keep ≡ false → DocumentKeepsNone d
-        → IsLaidDocument keep line number s level d x
-        → IsLaidDocument keep line number s level x y → y ≡ x }
-    ensures node { (keep : Keeping) (line : Bool) (number : ℕ) (s : Settings) (level : ℕ)
+        → IsLaidDocument keep line compact number s level d x
+        → IsLaidDocument keep line compact number s level x y → y ≡ x }
+    ensures node { (keep : Keeping) (line compact : Bool) (number : ℕ) (s : Settings) (level : ℕ)
         → (n x y : Node) → IndentsBySpaces s
         → s.entry_autoformate_keep ≡ false → NodeKeepsNone n
-        → IsLaidNode keep line number s level at_start n x
-        → IsLaidNode keep line number s level at_start x y → y ≡ x }
+        → IsLaidNode keep line compact number s level at_start n x
+        → IsLaidNode keep line compact number s level at_start x y → y ≡ x }
 {}
 
 /// If no block is to stay on one line, layout has the result of layout with blank lines and what is kept inside nodes.
 pub fn layout_without_one_line()
-    ensures document { (keep : Keeping) (number : ℕ) (s : Settings) (level : ℕ) (d x : Document)
-        → IsLaidDocument keep false number s level d x
-        ↔ IsSpelledDocument keep number s level d x }
-    ensures node { (keep : Keeping) (number : ℕ) (s : Settings) (level : ℕ) (n x : Node)
-        → IsLaidNode keep false number s level at_start n x
-        ↔ IsSpelledNode keep number s level at_start n x }
+    ensures document { (keep : Keeping) (compact : Bool) (number : ℕ) (s : Settings) (level : ℕ) (d x : Document)
+        → IsLaidDocument keep false compact number s level d x
+        ↔ IsSpelledDocument keep compact number s level d x }
+    ensures node { (keep : Keeping) (compact : Bool) (number : ℕ) (s : Settings) (level : ℕ) (n x : Node)
+        → IsLaidNode keep false compact number s level at_start n x
+        ↔ IsSpelledNode keep compact number s level at_start n x }
 {}
 
 /// If neither spellings nor comments inside entries and types are kept, layout has the result of layout with blank lines
 /// alone.
 #[tactic(auto, using(crate::proofs::TwoLayouts::respelled_document, crate::proofs::TwoLayouts::respelled_node))]
 pub fn layout_without_spellings()
-    ensures document { (number : ℕ) (s : Settings) (level : ℕ) (d x : Document)
-        → IsSpelledDocument nothing number s level d x ↔ IsSpacedDocument number s level d x }
-    ensures node { (number : ℕ) (s : Settings) (level : ℕ) (n x : Node)
-        → IsSpelledNode nothing number s level at_start n x
-        ↔ IsSpacedNode number s level at_start n x }
+    ensures document { (compact : Bool) (number : ℕ) (s : Settings) (level : ℕ) (d x : Document)
+        → IsSpelledDocument nothing compact number s level d x ↔ IsSpacedDocument compact number s level d x }
+    ensures node { (compact : Bool) (number : ℕ) (s : Settings) (level : ℕ) (n x : Node)
+        → IsSpelledNode nothing compact number s level at_start n x
+        ↔ IsSpacedNode compact number s level at_start n x }
 {}
 
-/// If no blank lines are kept, layout has the result of `autoformat_config`.
+/// If no blank lines are kept and a newline is in place of nodes, layout has the result of `autoformat_config`.
 #[tactic(auto, using(crate::proofs::TwoLayouts::unspaced_document, crate::proofs::TwoLayouts::unspaced_node))]
 pub fn layout_without_blank_lines()
     ensures document { (s : Settings) (level : ℕ) (d x : Document)
-        → IsSpacedDocument 0 s level d x ↔ IsFormattedDocument s level d x }
+        → IsSpacedDocument false 0 s level d x ↔ IsFormattedDocument s level d x }
     ensures node { (s : Settings) (level : ℕ) (n x : Node)
-        → IsSpacedNode 0 s level at_start n x ↔ IsFormattedNode s level n x }
+        → IsSpacedNode false 0 s level at_start n x ↔ IsFormattedNode s level n x }
 {}
 
 /// The text in memory that a document prints after layout with its comments is the text of the document, laid out.
@@ -162,7 +162,7 @@ pub fn texts_are_spaced_out()
         → LaidDocument (document_tree d) text → DocumentKeepsNoForm d
         → DocumentSpaced l d e → CommentsStay (document_tree d) (document_prints e)
         → string_bytes s ≡ encode_utf8_all (document_prints e)
-        → IsSpacedOut (keeping l) l.keep_one_line l.blank_lines text (text_of s) }
+        → IsSpacedOut (keeping l) l.keep_one_line l.compact_empty l.blank_lines text (text_of s) }
 {}
 
 /// If no entry is flagged, each entry reads back in the form that it keeps, as clause `reads_back` of layout requires.
