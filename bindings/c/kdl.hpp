@@ -867,7 +867,9 @@ using nodes = node::nodes;
 
 // ---- Documents ----
 
-/// How document::format lays a document out. Without a change, it is as document::format() does.
+/// How document::format lays a document out. Without a change, it is as document::format() does, but
+/// comments inside a type, after it and around `=` stay, and a document or a block without nodes gets no
+/// newline in their place.
 struct layout {
     /// The greatest number of empty lines that are kept between two nodes or comments.
     std::size_t blank_lines = 0;

@@ -159,7 +159,8 @@ class Document:
 
         The indent of a level is a number of spaces, or a text of spaces and tabs. At most `blank_lines`
         empty lines in a row are kept. With `keep_spelling`, values, names, keys and types keep their
-        spellings. With `keep_one_line`, a block that is on one line stays on one line. Raises
+        spellings. With `keep_one_line`, a block that is on one line stays on one line. A block without
+        nodes and comments is `{}`. Raises
         `ValueError` for another indent or a negative number, and then changes nothing.
 
         >>> document = Document("a   0x10; b { c; } // d")
@@ -193,7 +194,8 @@ class Document:
         self._lay(lib.kdl_strip)
 
     def autoformat(self, *, comments: bool = True) -> None:
-        """Does `format`, or `strip` without comments."""
+        """Lays the document out as `dumps` does, with a newline where a block has no nodes; without comments
+        does `strip`."""
         self._lay(lib.kdl_format if comments else lib.kdl_strip)
 
     def _lay(self, call: Any) -> None:

@@ -40,4 +40,4 @@ keeping_of l = record { spelling = is_set l.keep_spelling; comments = true }
 
 -- e is the document d after it is laid out with this indent
 abbrev pub IsLaidOutAs : KdlLayout → Text → KdlDocument → KdlDocument → Type 0
-IsLaidOutAs l i d e = IsLaidDocument (keeping_of l) (is_set l.keep_one_line) l.blank_lines (settings_of l i) 0 (document_tree d) (document_tree e)
+IsLaidOutAs l i d e = IsLaidDocument (keeping_of l) (is_set l.keep_one_line) true l.blank_lines (settings_of l i) 0 (document_tree d) (document_tree e)

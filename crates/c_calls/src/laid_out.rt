@@ -66,7 +66,8 @@ pub struct KdlLayout {
 }
 
 /// Lays the document out as `KdlDocument::autoformat_layout` does, with the indent once for each level. Comments inside
-/// entries and types stay, unless comments are removed.
+/// entries and types stay, unless comments are removed. A document or a block without nodes ends without an empty
+/// line.
 ///
 /// Returns `FAULTS` if the indent has another character than the spaces of KDL, and leaves the document unchanged.
 /// Returns `OUT_OF_MEMORY` if an allocation fails. The data of the document is then unchanged, and some of it may be laid
@@ -101,6 +102,7 @@ pub fn lay_out(document: &mut KdlDocument, layout: &KdlLayout, indent: &str) -> 
         keep_spelling: layout.keep_spelling != 0,
         keep_inner_comments: true,
         keep_one_line: layout.keep_one_line != 0,
+        compact_empty: true,
     };
     match document.autoformat_layout(&layout) {
         Err(_) => OUT_OF_MEMORY,
