@@ -41,12 +41,12 @@ abbrev pub IsNoDocument : List ℕ → Type 0
 IsNoDocument text = (x : Nodes) → IsDocument (chars text) x → ⊥
 
 -- the new text is what the document of a text prints after layout, which keeps one blank line, spellings, comments inside
--- entries and types, and blocks on one line
+-- entries and types, and blocks on one line, and puts no newline in place of nodes
 pub record IsLaidOut (indent : Option ℕ) (text new : List ℕ) : Type 0 where
   pub before : Document
   pub after : Document
   pub laid : LaidDocument before (chars text)
-  pub formatted : IsLaidDocument (record { spelling = true; comments = true }) true 1 (layout_settings indent) 0 before after
+  pub formatted : IsLaidDocument (record { spelling = true; comments = true }) true true 1 (layout_settings indent) 0 before after
   pub prints : new ≡ encode_utf8_all (print_document after 0)
 
 -- an edit as JSON, by its range and its text, and a list of edits

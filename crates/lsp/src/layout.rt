@@ -45,6 +45,7 @@ fn formatted(alloc: Global, text: &str, indent: Option<usize>) -> Result<String,
         keep_spelling: true,
         keep_inner_comments: true,
         keep_one_line: true,
+        compact_empty: true,
     };
     document.autoformat_layout(&layout)?;
     Ok(document.to_string(alloc)?)

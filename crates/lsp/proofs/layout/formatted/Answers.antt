@@ -15,6 +15,6 @@ returns-clause-laid_out c =
       before = document_tree d;
       after = document_tree e;
       laid = c.in_ok-document.ensures.laid;
-      formatted = subst (λ (x : Settings). IsLaidDocument (record { spelling = true; comments = true }) true 1 x x.indent_level (document_tree d) (document_tree e)) is c.in_ok-autoformat_layout.ensures.formatted;
+      formatted = subst (λ (x : Settings). IsLaidDocument (record { spelling = true; comments = true }) true true 1 x x.indent_level (document_tree d) (document_tree e)) is c.in_ok-autoformat_layout.ensures.formatted;
       prints = c.in_ok-to_string.ensures.ok;
     }
