@@ -76,3 +76,23 @@ raised_by a b n m e = omega (arith, e)
 
 pub raised_more : (a b m n o : ℕ) → raise b m ≡ raise a n → raise b (m + o) ≡ raise a (n + o)
 raised_more a b m n o e = omega (arith, e)
+
+-- each node is visited once
+mutual
+  visits_length : (q : Path) (i : ℕ) (ps : List PartSays) (y : Nodes) → length (visits q i ps y) ≡ node_count y
+  visits_length q i ps none = refl
+  visits_length q i ps (first n y) =
+      let a = length-append (visits_inside (q ++ i ∷ []) (entered (next_parts n ps)) n) (visits q (suc i) (next_parts n ps) y) in
+      let b = inside_visits (q ++ i ∷ []) (entered (next_parts n ps)) n in
+      let c = visits_length q (suc i) (next_parts n ps) y in
+      omega (arith, a, b, c)
+
+  inside_visits : (q : Path) (ps : List PartSays) (n : Node) → length (visits_inside q ps n) ≡ count_inside n
+  inside_visits q ps (node t s es k) = below_visits q ps k
+
+  below_visits : (q : Path) (ps : List PartSays) (k : Children) → length (visits_below q ps k) ≡ count_below k
+  below_visits q ps no_children = refl
+  below_visits q ps (children y) = visits_length q 0 ps y
+
+pub all_counted : (q : Query) (x : Nodes) → length (all_visits q x) ≡ node_count x
+all_counted q x = visits_length [] 0 (query_parts q) x

@@ -5,14 +5,47 @@ ghost use Rattle.kdl_query.specs.Counts.{node_count, part_count};
 ghost use Rattle.kdl_query.specs.Held.{AreHeld};
 ghost use Rattle.kdl_query.specs.Selects.{AreSelected, IsFirstSelected, IsSelected, IsSelection, Path};
 ghost use Rattle.kdl_query.specs.Tree.{query_says};
+ghost use Rattle.kdl_query.specs.Turns.{paths_from};
 ghost use Rattle.kdl_text.specs.Spans.{raise};
-ghost use Rattle.std.specs.Prelude.{◌≡◌, ◌*◌, IfOk, MatchOption, OnErr, OnOk, map};
+ghost use Rattle.std.specs.Prelude.{◌≡◌, ◌*◌, ◌≤◌, [], IfOk, MatchOption, OnErr, OnOk, length, map, sum_by};
 
 use crate::tree::Query;
 use crate::walk::Walk;
 use kdl::{KdlDocument, KdlNode};
 use kdl_text::cursor::Steps;
 use std::alloc::{AllocError, Global};
+
+/// The step from one path that a query selects to the next one. The first step is from the empty path.
+#[derive(Debug, Drop)]
+pub struct Turn {
+    /// How many indices the next path begins with alike.
+    pub kept: usize,
+    /// The indices of the next path after these.
+    pub rest: Vec<usize>,
+}
+
+/// Returns the paths that `query_paths` returns, each by what it has beyond the one before it: together they have no more
+/// indices than the document has nodes. Returns an error if an allocation fails.
+pub fn query_turns(
+    alloc: Global,
+    document: &KdlDocument,
+    query: &Query,
+) -> Result<Vec<Turn>, AllocError>
+    ensures selected { IfOk result (λ ts. IsSelection (document_says document.now)
+        (query_says query.now) (paths_from [] ts.items)) }
+    ensures short { IfOk result (λ ts. sum_by (λ t. length t.rest.items) ts.items
+        ≤ node_count (document_says document.now)) }
+{
+    let mut turns = Vec::new(alloc);
+    let mut walk = Walk::new(alloc, document, query)?;
+    while let Some(visit) = walk.visit(&mut 0)? {
+        if visit.is_selected {
+            turns.push(walk.turn(alloc)?)?;
+        }
+        walk.enter(alloc, visit.node)?;
+    }
+    Ok(turns)
+}
 
 /// Returns the paths of the nodes that the query selects, in the order of the document: a path is the index of a
 /// top-level node, then that of a node in its block, and so on. Returns an error if an allocation fails.

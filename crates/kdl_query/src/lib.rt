@@ -38,7 +38,7 @@ mod walk;
 
 pub use edit::edit_at;
 pub use error::{QueryError, QueryFailure};
-pub use find::{query, query_all, query_paths, query_paths_counted};
+pub use find::{Turn, query, query_all, query_paths, query_paths_counted, query_turns};
 pub use path::node_at;
 pub use tree::{
     Accessor, Combinator, Comparison, First, Literal, NodeTest, Query, Selector, Step, Test,

@@ -1,5 +1,5 @@
-use Rattle.std.proofs.Common.{◌≡◌, ◌-◌, ◌<◌, List, [], ◌∷◌, ◌++◌, ◌∙◌, ap, map, sym, take, slice_set, subst, rules}
-use Rattle.std.proofs.lemmas.List.{map-append}
+use Rattle.std.proofs.Common.{◌≡◌, ◌-◌, ◌<◌, List, length, arith, [], ◌∷◌, ◌++◌, ◌∙◌, ap, map, sym, take, slice_set, subst, rules}
+use Rattle.std.proofs.lemmas.List.{append-nil, length-append, length-take-le, map-append}
 use Rattle.kdl_text.specs.Spans.{raise}
 use Rattle.kdl_query.specs.Internal.Visits.{HeldLevels, LevelSays, due, level_at, level_due, level_left, level_says, looks_of, path_of, walk_due}
 use Rattle.kdl_query.specs.declared.walk.Level.{Level}
@@ -7,6 +7,7 @@ use Rattle.kdl_query.proofs.Counting.{looks_append, raised_more}
 use Rattle.kdl_query.proofs.HeldWalk.{held_came, held_left, held_on}
 use Rattle.kdl_query.proofs.Levels.{ends_in, front_kept, set_last}
 use Rattle.kdl_query.proofs.Passing.{passes_before, passes_on, passes_to}
+use Rattle.kdl_query.proofs.Turning.{keeps_on}
 use Rattle.kdl_query.proofs.Walking.{due_last, walk_came, walk_left_is}
 use Rattle.kdl_query.proofs.walk.Walk.visit.Goals as goal
 
@@ -66,6 +67,27 @@ returns-in-Some-advance-clause-held c =
     let some : 0 < v.len = search rules in
     λ d h. held_came d front c.advance.new.self _ c.in-Some-advance.visit.node.now (set_last v.len v.items c.advance.new.self v.ok.0 some) (returns-in-Some-advance-clause-over c d h) c.in-Some-advance.ensures.node
 
+pub returns-in-Some-advance-clause-kept : goal.returns-in-Some-advance-clause-kept
+returns-in-Some-advance-clause-kept c =
+    let v = c.loop-level.self.levels in
+    let front : List Level = take (v.len - 1) v.items in
+    let some : 0 < v.len = search rules in
+    let before : v.items ≡ front ++ c.in-Some.level.now ∷ [] = ends_in v.len v.items c.in-Some.level.now v.ok.0 some c.in-Some.ensures.value in
+    λ p h. keeps_on p c.loop-level.self _ front (c.in-Some.level.now ∷ []) (c.advance.new.self ∷ []) before (set_last v.len v.items c.advance.new.self v.ok.0 some)
+    (omega (arith, c.min-self.ensures)) (let short = length-take-le (v.len - 1) v.items (omega (arith, v.ok.0)) in omega (arith, c.min-self.ensures, c.len.ensures, short)) (c.loop-level.invariant.kept p h)
+
+pub returns-in-Some-advance-clause-unkept : goal.returns-in-Some-advance-clause-unkept
+returns-in-Some-advance-clause-unkept c =
+    let v = c.loop-level.self.levels in
+    let front : List Level = take (v.len - 1) v.items in
+    let some : 0 < v.len = search rules in
+    let short = length-take-le (v.len - 1) v.items (omega (arith, v.ok.0)) in
+    let long = ap length (set_last v.len v.items c.advance.new.self v.ok.0 some) ∙ length-append front (c.advance.new.self ∷ []) in
+    λ _. omega (arith, c.min-self.ensures, c.len.ensures, v.ok.0, some, short, long, c.loop-level.invariant.unkept)
+
+pub returns-clause-kept : goal.returns-clause-kept
+returns-clause-kept c = c.loop-level.invariant.kept
+
 pub loop-level-preserved : goal.loop-level-preserved
 loop-level-preserved c =
     let v = c.loop-level.self.levels in
@@ -76,13 +98,15 @@ loop-level-preserved c =
     let before : v.items ≡ front ++ c.in-Some.level.now ∷ [] = ends_in v.len v.items c.in-Some.level.now v.ok.0 some c.in-Some.ensures.value in
     let now : walk_due c.loop-level.self ≡ level_due (path_of ls) l ++ due [] ls =
     ap (λ ks. due [] (map level_says ks)) before ∙ ap (due []) (map-append level_says front (c.in-Some.level.now ∷ [])) ∙ due_last [] ls l in
-    let left : c.leave.new.self.levels.items ≡ front = c.in_ok-leave.ensures ∙ front_kept front _ _ (set_last v.len v.items _ v.ok.0 some) in
+    let left : c.leave.new.self.levels.items ≡ front = c.in_ok-leave.ensures.levels ∙ front_kept front _ _ (set_last v.len v.items _ v.ok.0 some) in
     let rest : due [] ls ≡ walk_due c.leave.new.self = ap (λ ks. due [] (map level_says ks)) (sym left) in
     record {
       due = passes_to (walk_due c.args.self.now) (due [] ls) (walk_due c.leave.new.self)
           (passes_on (walk_due c.args.self.now) (level_due (path_of ls) l ++ due [] ls) (due [] ls)
           (passes_to (walk_due c.args.self.now) (walk_due c.loop-level.self) (level_due (path_of ls) l ++ due [] ls) c.loop-level.invariant.due now)
           (passes_before (level_due (path_of ls) l) [] (due [] ls) (c.in_default-advance.ensures.due (path_of ls)))) rest;
+      kept = λ p h. keeps_on p c.loop-level.self c.leave.new.self front (c.in-Some.level.now ∷ []) [] before (left ∙ sym (append-nil front)) (omega (arith, c.in_ok-leave.ensures.kept)) (omega (arith, c.in_ok-leave.ensures.kept, ap length left)) (c.loop-level.invariant.kept p h);
+      unkept = let long = ap length before in let one = length-append front (c.in-Some.level.now ∷ []) in omega (arith, c.in_ok-leave.ensures.kept, ap length left, long, one, c.loop-level.invariant.unkept);
       over = λ d h. held_left d front c.in-Some.level.now v.items _ before left (c.loop-level.invariant.over d h);
       counted = ap (λ vs. raise c.advance.new.count (looks_of vs)) (sym rest) ∙ ap (raise c.advance.new.count) (looks_append [] (due [] ls))
           ∙ raised_more c.loop-level.count c.advance.new.count 0 (looks_of (level_due (path_of ls) l)) (looks_of (due [] ls)) (c.in_default-advance.ensures.counted (path_of ls))
