@@ -45,7 +45,7 @@ turned_to p w t e f h =
     ap (λ n. take n p ++ t.rest.items) e ∙ ap (λ r. take w.kept p ++ r) (f ∙ sym (drop-map (λ (l : Level). l.current) w.kept w.levels.items) ∙ ap (drop w.kept) (path_mapped w.levels.items))
     ∙ ap (λ r. r ++ drop w.kept q) h.same ∙ take-append-drop w.kept q
 
-paths_push : (p : Path) (ts : List Turn) (t : Turn) → paths_from p (ts ++ t ∷ []) ≡ paths_from p ts ++ turned (fold turned p ts) t ∷ []
+pub paths_push : (p : Path) (ts : List Turn) (t : Turn) → paths_from p (ts ++ t ∷ []) ≡ paths_from p ts ++ turned (fold turned p ts) t ∷ []
 paths_push p [] t = refl
 paths_push p (u ∷ ts) t = ap (λ ps. turned p u ∷ ps) (paths_push (turned p u) ts t)
 
@@ -54,22 +54,20 @@ last_push p [] t = refl
 last_push p (u ∷ ts) t = last_push (turned p u) ts t
 
 -- what was found, with what is still to be found
-abbrev pub Finds : Nodes → Query → List Turn → List Visited → Type 0
-Finds x q ts due = paths_from [] ts ++ chosen_paths due ≡ chosen_paths (all_visits q x)
+abbrev pub Finds : Nodes → Query → List Path → List Visited → Type 0
+Finds x q found due = found ++ chosen_paths due ≡ chosen_paths (all_visits q x)
 
-pub finds_one : (x : Nodes) (q : Query) (ts us : List Turn) (t : Turn) (due rest now : List Visited) (v : Visited) → Passes due (v ∷ rest) → v.is_selected ≡ true → turned (fold turned [] ts) t ≡ v.path → now ≡ rest → us ≡ ts ++ t ∷ []
-    → Finds x q ts due → Finds x q us now
-finds_one x q ts us t due rest now v p s at e f h =
-    ap (λ l. paths_from [] l ++ chosen_paths now) f ∙ ap (λ l. l ++ chosen_paths now) (paths_push [] ts t) ∙ append_assoc (paths_from [] ts) (turned (fold turned [] ts) t ∷ []) (chosen_paths now)
-    ∙ ap (λ r. paths_from [] ts ++ r ∷ chosen_paths now) at ∙ ap (λ l. paths_from [] ts ++ v.path ∷ chosen_paths l) e
-    ∙ ap (λ b. paths_from [] ts ++ map (λ (w : Visited). w.path) (cond b (v ∷ chosen rest) (chosen rest))) (sym s)
-    ∙ ap (λ l. paths_from [] ts ++ map (λ (w : Visited). w.path) l) (sym (passed_chosen due (v ∷ rest) p)) ∙ h
+pub finds_one : (x : Nodes) (q : Query) (found : List Path) (due rest now : List Visited) (v : Visited) → Passes due (v ∷ rest) → v.is_selected ≡ true → now ≡ rest → Finds x q found due → Finds x q (found ++ v.path ∷ []) now
+finds_one x q found due rest now v p s e h =
+    append_assoc found (v.path ∷ []) (chosen_paths now) ∙ ap (λ vs. found ++ v.path ∷ chosen_paths vs) e
+    ∙ ap (λ b. found ++ map (λ (w : Visited). w.path) (cond b (v ∷ chosen rest) (chosen rest))) (sym s)
+    ∙ ap (λ vs. found ++ map (λ (w : Visited). w.path) vs) (sym (passed_chosen due (v ∷ rest) p)) ∙ h
 
-pub finds_none : (x : Nodes) (q : Query) (ts : List Turn) (due rest now : List Visited) (v : Visited) → Passes due (v ∷ rest) → v.is_selected ≡ false → now ≡ rest → Finds x q ts due → Finds x q ts now
-finds_none x q ts due rest now v p s e h =
-    ap (λ l. paths_from [] ts ++ chosen_paths l) e
-    ∙ ap (λ b. paths_from [] ts ++ map (λ (w : Visited). w.path) (cond b (v ∷ chosen rest) (chosen rest))) (sym s)
-    ∙ ap (λ l. paths_from [] ts ++ map (λ (w : Visited). w.path) l) (sym (passed_chosen due (v ∷ rest) p)) ∙ h
+pub finds_none : (x : Nodes) (q : Query) (found : List Path) (due rest now : List Visited) (v : Visited) → Passes due (v ∷ rest) → v.is_selected ≡ false → now ≡ rest → Finds x q found due → Finds x q found now
+finds_none x q found due rest now v p s e h =
+    ap (λ vs. found ++ chosen_paths vs) e
+    ∙ ap (λ b. found ++ map (λ (w : Visited). w.path) (cond b (v ∷ chosen rest) (chosen rest))) (sym s)
+    ∙ ap (λ vs. found ++ map (λ (w : Visited). w.path) vs) (sym (passed_chosen due (v ∷ rest) p)) ∙ h
 
 -- one node fewer is due
 pub passes_shorter : (due rest : List Visited) (v : Visited) → Passes due (v ∷ rest) → suc (length rest) ≤ length due

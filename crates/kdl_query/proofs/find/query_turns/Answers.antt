@@ -8,7 +8,7 @@ use Rattle.kdl_query.specs.Internal.Visits.{Passes, came_to, chosen_paths, walk_
 use Rattle.kdl_query.specs.declared.walk.Walk.{Walk}
 use Rattle.kdl_query.proofs.Choosing.{paths_found}
 use Rattle.kdl_query.proofs.Counting.{all_counted}
-use Rattle.kdl_query.proofs.Turning.{Finds, count_push, finds_none, finds_one, index_count, keeps_all, last_push, left_same, passes_shorter}
+use Rattle.kdl_query.proofs.Turning.{Finds, count_push, finds_none, finds_one, index_count, keeps_all, last_push, left_same, passes_shorter, paths_push}
 use Rattle.kdl_query.proofs.find.query_turns.Goals as goal
 use Rattle.kdl_query.proofs.find.query_turns.Goals.{then-visit+in_ok-turn+in_ok-push, else-visit}
 
@@ -45,7 +45,8 @@ loop-walk-preserved c =
           let all = ap (λ (a : Walk). a.kept) w.walk-is ∙ w.in_ok-turn.ensures.kept in
           let long = ap (λ ls. length ls.items) levels in
           record {
-            found = finds_one x q ts c.if-visit.turns.items t (walk_due c.loop-walk.walk) (walk_left v walk) (walk_due c.enter.new.self) (came_to v walk) some w.if-visit.true at due pushed h.found;
+            found = subst (λ l. Finds x q l (walk_due c.enter.new.self)) (sym (ap (paths_from []) pushed ∙ paths_push [] ts t ∙ ap (λ p. paths_from [] ts ++ p ∷ []) at))
+                (finds_one x q (paths_from [] ts) (walk_due c.loop-walk.walk) (walk_left v walk) (walk_due c.enter.new.self) (came_to v walk) some w.if-visit.true due h.found);
             kept = c.in_ok-enter.ensures.kept _ (subst (λ p. Keeps p c.if-visit.walk) (sym (ap (fold turned []) pushed ∙ last_push [] ts t ∙ at)) (keeps_all walk c.if-visit.walk levels all));
             short = omega (arith, count_push ts c.if-visit.turns.items t pushed, w.in_ok-turn.ensures.short, c.in_ok-enter.ensures.unkept, all, long, ap length due, fewer, near, h.short);
           }
@@ -53,7 +54,7 @@ loop-walk-preserved c =
           let due = c.in_ok-enter.ensures.due ∙ ap (walk_left v) w.walk-is in
           let same = ap (λ f. f.items) w.turns-is in
           record {
-            found = subst (λ us. Finds x q us (walk_due c.enter.new.self)) (sym same) (finds_none x q ts (walk_due c.loop-walk.walk) (walk_left v walk) (walk_due c.enter.new.self) (came_to v walk) some w.if-visit.false due h.found);
+            found = subst (λ us. Finds x q (paths_from [] us) (walk_due c.enter.new.self)) (sym same) (finds_none x q (paths_from [] ts) (walk_due c.loop-walk.walk) (walk_left v walk) (walk_due c.enter.new.self) (came_to v walk) some w.if-visit.false due h.found);
             kept = c.in_ok-enter.ensures.kept _ (subst (λ us. Keeps (fold turned [] us) c.if-visit.walk) (sym same) (subst (Keeps (fold turned [] ts)) (sym w.walk-is) keeps));
             short = omega (arith, ap index_count same, c.in_ok-enter.ensures.unkept, ap (λ (a : Walk). length a.levels.items) w.walk-is, ap (λ (a : Walk). a.kept) w.walk-is, ap length due, fewer, near, h.short);
           }

@@ -1,14 +1,15 @@
-use Rattle.std.proofs.Common.{◌≡◌, ◌-◌, ◌<◌, List, length, arith, [], ◌∷◌, ◌++◌, ◌∙◌, ap, map, sym, take, slice_set, subst, rules}
+use Rattle.std.proofs.Common.{◌≡◌, ◌+◌, ◌-◌, ◌<◌, List, length, arith, [], ◌∷◌, ◌++◌, ◌∙◌, ap, map, sym, take, slice_set, subst, rules}
 use Rattle.std.proofs.lemmas.List.{append-nil, length-append, length-take-le, map-append}
+use Rattle.kdl.specs.Tree.{node_says}
 use Rattle.kdl_text.specs.Spans.{raise}
-use Rattle.kdl_query.specs.Internal.Visits.{HeldLevels, LevelSays, due, level_at, level_due, level_left, level_says, looks_of, path_of, walk_due}
+use Rattle.kdl_query.specs.Internal.Visits.{HeldLevels, LevelSays, copies, due, inside_last, last_parts, level_at, level_due, level_left, level_says, level_steps_left, steps_of, path_of, walk_due}
 use Rattle.kdl_query.specs.declared.walk.Level.{Level}
-use Rattle.kdl_query.proofs.Counting.{looks_append, raised_more}
+use Rattle.kdl_query.proofs.Counting.{steps_append, raised_more}
 use Rattle.kdl_query.proofs.HeldWalk.{held_came, held_left, held_on}
 use Rattle.kdl_query.proofs.Levels.{ends_in, front_kept, set_last}
 use Rattle.kdl_query.proofs.Passing.{passes_before, passes_on, passes_to}
 use Rattle.kdl_query.proofs.Turning.{keeps_on}
-use Rattle.kdl_query.proofs.Walking.{due_last, walk_came, walk_left_is}
+use Rattle.kdl_query.proofs.Walking.{due_last, parts_last, walk_came, walk_left_is}
 use Rattle.kdl_query.proofs.walk.Walk.visit.Goals as goal
 
 pub returns-in-Some-advance-clause-due : goal.returns-in-Some-advance-clause-due
@@ -48,9 +49,13 @@ returns-in-Some-advance-clause-counted c =
     let after : List LevelSays = map level_says (slice_set v.items (v.len - 1) c.advance.new.self) in
     let levels : after ≡ ls ++ k ∷ [] =
     ap (map level_says) (set_last v.len v.items c.advance.new.self v.ok.0 some) ∙ map-append level_says front (c.advance.new.self ∷ []) in
-    ap (λ vs. raise c.advance.new.count (looks_of vs)) (walk_left_is ls after k visit levels) ∙ ap (raise c.advance.new.count) (looks_append (level_left (path_of ls) visit k) (due [] ls))
-    ∙ raised_more c.loop-level.count c.advance.new.count (looks_of (level_left (path_of ls) visit k)) (looks_of (level_due (path_of ls) l)) (looks_of (due [] ls)) (c.in-Some-advance.ensures.counted (path_of ls))
-    ∙ ap (raise c.loop-level.count) (sym (looks_append (level_due (path_of ls) l) (due [] ls))) ∙ ap (λ vs. raise c.loop-level.count (looks_of vs)) (sym now) ∙ c.loop-level.invariant.counted
+    let n = node_says visit.node.now in
+    let same = ap (λ i. copies i n) (parts_last ls after k levels) in
+    let left = ap steps_of (walk_left_is ls after k visit levels) ∙ steps_append (level_left (path_of ls) visit k) (due [] ls) in
+    let total : copies (length (last_parts after)) n + steps_of (inside_last after n ++ due [] after) ≡ level_steps_left (path_of ls) visit k + steps_of (due [] ls) = omega (arith, same, left) in
+    ap (raise c.advance.new.count) total
+    ∙ raised_more c.loop-level.self.steps c.advance.new.count (level_steps_left (path_of ls) visit k) (steps_of (level_due (path_of ls) l)) (steps_of (due [] ls)) (c.in-Some-advance.ensures.counted (path_of ls))
+    ∙ ap (raise c.loop-level.self.steps) (sym (steps_append (level_due (path_of ls) l) (due [] ls))) ∙ ap (λ vs. raise c.loop-level.self.steps (steps_of vs)) (sym now) ∙ c.loop-level.invariant.counted
 
 pub returns-in-Some-advance-clause-over : goal.returns-in-Some-advance-clause-over
 returns-in-Some-advance-clause-over c =
@@ -108,7 +113,7 @@ loop-level-preserved c =
       kept = λ p h. keeps_on p c.loop-level.self c.leave.new.self front (c.in-Some.level.now ∷ []) [] before (left ∙ sym (append-nil front)) (omega (arith, c.in_ok-leave.ensures.kept)) (omega (arith, c.in_ok-leave.ensures.kept, ap length left)) (c.loop-level.invariant.kept p h);
       unkept = let long = ap length before in let one = length-append front (c.in-Some.level.now ∷ []) in omega (arith, c.in_ok-leave.ensures.kept, ap length left, long, one, c.loop-level.invariant.unkept);
       over = λ d h. held_left d front c.in-Some.level.now v.items _ before left (c.loop-level.invariant.over d h);
-      counted = ap (λ vs. raise c.advance.new.count (looks_of vs)) (sym rest) ∙ ap (raise c.advance.new.count) (looks_append [] (due [] ls))
-          ∙ raised_more c.loop-level.count c.advance.new.count 0 (looks_of (level_due (path_of ls) l)) (looks_of (due [] ls)) (c.in_default-advance.ensures.counted (path_of ls))
-          ∙ ap (raise c.loop-level.count) (sym (looks_append (level_due (path_of ls) l) (due [] ls))) ∙ ap (λ vs. raise c.loop-level.count (looks_of vs)) (sym now) ∙ c.loop-level.invariant.counted;
+      counted = ap (λ i. raise i (steps_of (walk_due c.leave.new.self))) c.in_ok-leave.ensures.counted ∙ ap (λ vs. raise c.advance.new.count (steps_of vs)) (sym rest) ∙ ap (raise c.advance.new.count) (steps_append [] (due [] ls))
+          ∙ raised_more c.loop-level.self.steps c.advance.new.count 0 (steps_of (level_due (path_of ls) l)) (steps_of (due [] ls)) (c.in_default-advance.ensures.counted (path_of ls))
+          ∙ ap (raise c.loop-level.self.steps) (sym (steps_append (level_due (path_of ls) l) (due [] ls))) ∙ ap (λ vs. raise c.loop-level.self.steps (steps_of vs)) (sym now) ∙ c.loop-level.invariant.counted;
     }
