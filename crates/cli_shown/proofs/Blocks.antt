@@ -1,5 +1,5 @@
 -- The blocks that a path goes through.
-use Rattle.std.proofs.Common.{◌≡◌, ◌∙◌, ◌<◌, ◌≤◌, ◌+◌, ℕ, zero, suc, Bool, true, false, List, [], ◌∷◌, ◌++◌, Option, Some, None, inl, inr, ap, append_assoc, arith, bytes_eq, drop, get_or, length, map, option_map, refl, slice_get, string_bytes, subst, sym, take}
+use Rattle.std.proofs.Common.{◌≡◌, ◌∙◌, ◌<◌, ◌+◌, ℕ, zero, suc, Bool, true, false, List, [], ◌∷◌, ◌++◌, Option, Some, None, inl, inr, ap, append_assoc, arith, bytes_eq, drop, get_or, length, map, option_map, refl, slice_get, string_bytes, subst, sym, take}
 use Rattle.std.proofs.lemmas.Option.{get_or_from_slice_get, slice_get-map}
 use Rattle.std.proofs.Math.Seq.{take-suc}
 use Rattle.std.proofs.lemmas.Slice.Eq.{bytes_eq-Decides}
@@ -19,19 +19,14 @@ use Rattle.cli_shown.specs.Names.{named_before, index_bytes, name_bytes, path_by
 use Rattle.cli_shown.specs.Internal.Trail.{AreRanks, AreRanksAlong, IsAt, inside_at}
 use Rattle.cli_shown.proofs.Steps.{counted, stepped}
 
--- the blocks up to the first step that differs
-pub turned : (k : ℕ) (rs : List (List ℕ)) (p q : List ℕ) (xs : List NodeData) → take k p ≡ take k q → k ≤ length p → k ≤ length q → AreRanksAlong rs p xs → AreRanksAlong (take (suc k) rs) q xs
-turned k [] p q xs e l m h = tt
-turned zero (r ∷ rs) [] [] xs e l m h = (h.0, refl)
-turned zero (r ∷ rs) [] (j ∷ q) xs e l m h = (h.0, tt)
-turned zero (r ∷ rs) (i ∷ p) [] xs e l m h = (h.0, refl)
-turned zero (r ∷ rs) (i ∷ p) (j ∷ q) xs e l m h = (h.0, tt)
-turned (suc k) (r ∷ rs) [] q xs e l m h = absurd (omega (arith, l))
-turned (suc k) (r ∷ rs) (i ∷ p) [] xs e l m h = absurd (omega (arith, m))
-turned (suc k) (r ∷ rs) (i ∷ p) (j ∷ q) xs e l m h =
-    let first : i ≡ j = cc (e) in
-    let rest : take k p ≡ take k q = cc (e) in
-    (h.0, turned k rs p q (inside_at j xs) rest (omega (arith, l)) (omega (arith, m)) (subst (λ (t : ℕ). AreRanksAlong rs p (inside_at t xs)) first h.1))
+-- the blocks that all paths with the same first steps go through
+pub turned : (kept p q : Path) (rs : List (List ℕ)) (xs : List NodeData) → AreRanksAlong rs (kept ++ p) xs → AreRanksAlong (take (suc (length kept)) rs) (kept ++ q) xs
+turned kept p q [] xs h = tt
+turned [] [] [] (r ∷ rs) xs h = (h.0, refl)
+turned [] [] (j ∷ q) (r ∷ rs) xs h = (h.0, tt)
+turned [] (i ∷ p) [] (r ∷ rs) xs h = (h.0, refl)
+turned [] (i ∷ p) (j ∷ q) (r ∷ rs) xs h = (h.0, tt)
+turned (k ∷ kept) p q (r ∷ rs) xs h = (h.0, turned kept p q rs (inside_at k xs) h.1)
 
 -- ---- the ranks of the nodes of a block
 

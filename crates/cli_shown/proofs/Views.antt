@@ -1,5 +1,5 @@
 -- What is shown of the nodes at paths.
-use Rattle.std.proofs.Common.{◌≡◌, ℕ, List, [], ◌∷◌, ◌++◌, Option, Some, decimal, length, map, refl, ap, ◌∙◌, sym}
+use Rattle.std.proofs.Common.{◌≡◌, ℕ, suc, List, [], ◌∷◌, ◌++◌, Option, Some, decimal, length, map, refl, ap, ◌∙◌, sym}
 use Rattle.std.proofs.lemmas.List.{length-map}
 use Rattle.std.specs.List.{flat_map}
 use Rattle.std.specs.Option.{option_map_or}
@@ -8,6 +8,8 @@ use Rattle.kdl.specs.declared.document.KdlDocument.{KdlDocument}
 use Rattle.kdl.specs.declared.node.KdlNode.{KdlNode}
 use Rattle.kdl_query.specs.Held.{held_at}
 use Rattle.kdl_query.specs.Selects.{Path}
+use Rattle.kdl_query.specs.Turns.{paths_from, turned}
+use Rattle.kdl_query.specs.declared.find.Turn.{Turn}
 use Rattle.cli_shown.specs.Nodes.{node_shown, part_shown, shown, shown_at}
 use Rattle.cli_shown.specs.declared.nodes.View.{View}
 use Rattle.cli_shown.specs.declared.nodes.View.TheVariants.{Text, Raw, Json, Count, Paths}
@@ -15,6 +17,11 @@ use Rattle.cli_shown.specs.declared.nodes.View.TheVariants.{Text, Raw, Json, Cou
 -- as many nodes as paths
 pub as_many : (F : Path → Option KdlNode) (ps : List Path) (ns : List KdlNode) → map F ps ≡ map Some ns → length ns ≡ length ps
 as_many F ps ns e = sym (length-map ns Some) ∙ ap length (sym e) ∙ length-map ps F
+
+-- as many paths as turns
+pub paths_counted : (p : Path) (ts : List Turn) → length (paths_from p ts) ≡ length ts
+paths_counted p [] = refl
+paths_counted p (t ∷ ts) = ap suc (paths_counted (turned p t) ts)
 
 -- a view other than that of PATHs shows the same of a node at each path
 part_is : (v : View) → (v ≡ Paths → ⊥) → (x : Nodes) (p : Path) (n : KdlNode) → part_shown v n ≡ node_shown v x p n

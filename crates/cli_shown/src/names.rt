@@ -10,38 +10,38 @@ use itoa::Buffer;
 use kdl::{KdlDocument, KdlIdentifier, KdlNode};
 use std::alloc::{AllocError, Global};
 
-/// Appends a line with the PATH of the node at a path.
-pub(crate) fn push_path<'a>(
+/// Appends a line with the PATH of the node at the path of a trail.
+pub(crate) fn push_path(
     alloc: Global,
     out: &mut String,
     document: &KdlDocument,
-    trail: &mut Trail<'a>,
-    path: &'a [usize],
+    trail: &mut Trail,
+    path: &[usize],
 ) -> Result<(), AllocError>
-    requires { IsTrail trail.old (said_nodes (document_says document.now)) }
+    requires { IsTrail trail.old path.now (said_nodes (document_says document.now)) }
     ensures line { OnOk result (string_bytes out.new
-        ≡ string_bytes out.old ++ path_bytes path.entry.now (said_nodes (document_says document.now)) ++ 10 ∷ []) }
-    ensures trail { OnOk result (IsTrail trail.new (said_nodes (document_says document.now))) }
+        ≡ string_bytes out.old ++ path_bytes path.now (said_nodes (document_says document.now)) ++ 10 ∷ []) }
+    ensures trail { OnOk result (IsTrail trail.new path.now (said_nodes (document_says document.now))) }
 {
-    trail.turn(path);
-    push_steps(alloc, out, document.nodes(), trail)?;
+    push_steps(alloc, out, document.nodes(), trail, path)?;
     out.push('\n')
 }
 
-/// Appends the PATH of the node at the path of a trail, which begins among these nodes.
+/// Appends the PATH of the node at the path, which begins among these nodes.
 fn push_steps(
     alloc: Global,
     out: &mut String,
     nodes: &[KdlNode],
-    trail: &mut Trail<'_>,
+    trail: &mut Trail,
+    path: &[usize],
 ) -> Result<(), AllocError>
-    requires { IsTrail trail.old (map node_says nodes.now) }
+    requires { IsTrail trail.old path.now (map node_says nodes.now) }
     ensures path { OnOk result (string_bytes out.new
-        ≡ string_bytes out.old ++ path_bytes trail.old.path.now (map node_says nodes.now)) }
-    ensures trail { OnOk result (IsTrail trail.new (map node_says nodes.now)) }
+        ≡ string_bytes out.old ++ path_bytes path.now (map node_says nodes.now)) }
+    ensures trail { OnOk result (IsTrail trail.new path.now (map node_says nodes.now)) }
 {
     let mut nodes = nodes;
-    let mut rest = trail.path;
+    let mut rest = path;
     let mut depth = 0usize;
     while let Some((index, below)) = rest.split_first() {
         let Some(node) = nth(nodes, *index) else {

@@ -4,12 +4,13 @@ ghost use Rattle.cli_shown.specs.Nodes.{ShowsSelected, ended, ends_line, node_te
 ghost use Rattle.cli_shown.specs.Internal.Trail.{IsTrail};
 ghost use Rattle.cli_shown.specs.Values.{line_of};
 ghost use Rattle.cli_shown.specs.declared.nodes.View.TheVariants.{Paths};
-ghost use Rattle.kdl.specs.Words.{document_says, node_prints, node_says, node_tree, said_argument, said_nodes};
+ghost use Rattle.kdl.specs.Words.{NodeData, document_says, node_prints, node_says, node_tree, said_argument, said_nodes};
 ghost use Rattle.kdl_json.specs.Form.{node_json_text};
 ghost use Rattle.kdl.specs.declared.document.KdlDocument.{KdlDocument};
 ghost use Rattle.kdl_query.specs.Held.{held_at};
 ghost use Rattle.kdl_query.specs.Selects.{Path};
 ghost use Rattle.kdl_query.specs.Tree.{query_says};
+ghost use Rattle.kdl_query.specs.Turns.{paths_from, turned};
 ghost use Rattle.std.specs.List.{flat_map};
 ghost use Rattle.std.specs.Option.{option_map_or};
 ghost use Rattle.std.specs.Prelude.{◌≡◌, ◌∷◌, ◌++◌, [], IfOk, List, OnOk, Some, decimal, encode_utf8_all, map, string_bytes, true};
@@ -20,7 +21,7 @@ use crate::values::push_value;
 use itoa::Buffer;
 use kdl::{KdlDocument, KdlNode, NodeKey};
 use kdl_json::node_to_json;
-use kdl_query::{Query, node_at, query_all, query_paths};
+use kdl_query::{Query, Turn, node_at, query_all, query_turns};
 use std::alloc::{AllocError, Global};
 
 /// What is shown of nodes.
@@ -64,8 +65,8 @@ fn shown_paths(
     ensures { IfOk result (λ r. ShowsSelected Paths (query_says query.now) document.now
         (string_bytes r.0) r.1) }
 {
-    let paths = query_paths(alloc, document, query)?;
-    Ok((path_lines(alloc, document, &paths)?, paths.len()))
+    let turns = query_turns(alloc, document, query)?;
+    Ok((path_lines(alloc, document, &turns)?, turns.len()))
 }
 
 /// Returns what a view other than `View::Paths` shows of the nodes that the query selects, and how many they are.
@@ -106,35 +107,45 @@ fn count_line(alloc: Global, count: usize) -> Result<String, AllocError>
     Ok(line)
 }
 
-/// Returns the lines with the PATHs of the nodes at these paths.
-fn path_lines(
-    alloc: Global,
-    document: &KdlDocument,
-    paths: &[Vec<usize>],
-) -> Result<String, AllocError>
+/// Returns the lines with the PATHs of the nodes at the paths of these turns.
+fn path_lines(alloc: Global, document: &KdlDocument, turns: &[Turn]) -> Result<String, AllocError>
     ensures { IfOk result (λ s. string_bytes s
-        ≡ flat_map (shown_at Paths document.now) (map (λ p. p.items) paths.now)) }
+        ≡ flat_map (shown_at Paths document.now) (paths_from [] turns.now)) }
 {
     let mut out = String::new(alloc);
+    let mut path = Vec::new(alloc);
     let mut trail = Trail::new(alloc);
-    for path in paths {
-        push_line(alloc, &mut out, document, &mut trail, path)?;
+    for turn in turns {
+        take_turn(&mut path, &mut trail, turn)?;
+        push_line(alloc, &mut out, document, &mut trail, &path)?;
     }
     Ok(out)
 }
 
-/// Appends a line with the PATH of the node at a path, if there is one.
-fn push_line<'a>(
+/// Goes on to the next path.
+fn take_turn(path: &mut Vec<usize>, trail: &mut Trail, turn: &Turn) -> Result<(), AllocError>
+    ensures path { OnOk result (path.new.items ≡ turned path.old.items turn.now) }
+    ensures trail { OnOk result ((xs : List NodeData)
+        → IsTrail trail.old path.old.items xs → IsTrail trail.new path.new.items xs) }
+{
+    path.truncate(turn.kept);
+    trail.turn(path);
+    path.extend_from_slice(&turn.rest)?;
+    Ok(())
+}
+
+/// Appends a line with the PATH of the node at the path of a trail, if there is one.
+fn push_line(
     alloc: Global,
     out: &mut String,
     document: &KdlDocument,
-    trail: &mut Trail<'a>,
-    path: &'a [usize],
+    trail: &mut Trail,
+    path: &[usize],
 ) -> Result<(), AllocError>
-    requires { IsTrail trail.old (said_nodes (document_says document.now)) }
+    requires { IsTrail trail.old path.now (said_nodes (document_says document.now)) }
     ensures shown { OnOk result (string_bytes out.new
-        ≡ string_bytes out.old ++ shown_at Paths document.now path.entry.now) }
-    ensures trail { OnOk result (IsTrail trail.new (said_nodes (document_says document.now))) }
+        ≡ string_bytes out.old ++ shown_at Paths document.now path.now) }
+    ensures trail { OnOk result (IsTrail trail.new path.now (said_nodes (document_says document.now))) }
 {
     match node_at(document, path) {
         Some(_) => push_path(alloc, out, document, trail, path),

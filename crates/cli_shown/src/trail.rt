@@ -1,7 +1,7 @@
 //! The blocks that a path goes through, with the ranks of their nodes.
 
 ghost use Rattle.kdl.specs.Words.{NodeData, node_says};
-ghost use Rattle.std.specs.Prelude.{◌≡◌, ◌<◌, ◌≤◌, ℕ, List, [], ◌∷◌, IfOk, OnOk, get_or, length, map, take};
+ghost use Rattle.std.specs.Prelude.{◌≡◌, ◌<◌, ◌≤◌, ℕ, List, [], ◌∷◌, ◌++◌, IfOk, OnOk, get_or, length, map};
 ghost use Rattle.cli_shown.specs.Internal.Trail.{AreRanks, AreRanksAlong, IsAt, IsTrail, trail_ranks};
 ghost use Rattle.kdl_query.specs.Selects.{Path};
 
@@ -9,42 +9,38 @@ use kdl::KdlNode;
 use std::alloc::{AllocError, Global};
 use std::collections::BTreeMap;
 
-/// A path, and the ranks of the nodes in blocks that it goes through, the outermost one first. The rank of a node is how
-/// many nodes of its name are before it in its block.
+/// The ranks of the nodes in blocks that a path goes through, the outermost one first. The rank of a node is how many nodes
+/// of its name are before it in its block.
 #[derive(Drop)]
-pub(crate) struct Trail<'a> {
-    pub(crate) path: &'a [usize],
+pub(crate) struct Trail {
     blocks: Vec<Vec<usize>>,
 }
 
-impl<'a> Trail<'a> {
-    /// An empty path, before any block.
-    pub(crate) fn new(alloc: Global) -> Trail<'a>
-        ensures { (xs : List NodeData) → IsTrail result xs }
+impl Trail {
+    /// Before any block.
+    pub(crate) fn new(alloc: Global) -> Trail
+        ensures { (p : Path) (xs : List NodeData) → IsTrail result p xs }
     {
         Trail {
-            path: &[],
             blocks: Vec::new(alloc),
         }
     }
 
-    /// Takes another path, and keeps the blocks that it goes through too.
-    pub(crate) fn turn(&mut self, path: &'a [usize])
-        ensures path { self.new.path ≡ path.entry }
-        ensures blocks { (xs : List NodeData) → IsTrail self.old xs → IsTrail self.new xs }
+    /// Keeps the blocks that all paths with these first steps go through.
+    pub(crate) fn turn(&mut self, kept: &[usize])
+        ensures { (p q : Path) (xs : List NodeData)
+            → IsTrail self.old (kept.now ++ p) xs → IsTrail self.new (kept.now ++ q) xs }
     {
-        self.blocks.truncate(shared(self.path, path) + 1);
-        self.path = path;
+        self.blocks.truncate(kept.len() + 1);
     }
 
-    /// Makes the ranks in the block at a depth of its path known. The block has these nodes.
+    /// Makes the ranks in the block at a depth of a path known. The block has these nodes.
     pub(crate) fn reach(
         &mut self,
         alloc: Global,
         depth: usize,
         nodes: &[KdlNode],
     ) -> Result<(), AllocError>
-        ensures path { OnOk result (self.new.path ≡ self.old.path) }
         ensures at { OnOk result ((index : ℕ) (below whole : Path) (top : List NodeData)
             → IsAt (trail_ranks self.old) depth (index ∷ below) (map node_says nodes.now) whole top
             → IsAt (trail_ranks self.new) depth (index ∷ below) (map node_says nodes.now) whole top) }
@@ -65,21 +61,6 @@ impl<'a> Trail<'a> {
             None => 0,
         }
     }
-}
-
-/// How many steps two paths begin with alike.
-fn shared(path: &[usize], other: &[usize]) -> usize
-    ensures same { take result path.now ≡ take result other.now }
-    ensures differ { result < length path.now → result < length other.now
-        → get_or path.now result 0 ≡ get_or other.now result 0 → ⊥ }
-    ensures first { result ≤ length path.now }
-    ensures second { result ≤ length other.now }
-{
-    let mut count = 0usize;
-    while count < path.len() && count < other.len() && path[count] == other[count] {
-        count += 1;
-    }
-    count
 }
 
 /// Returns the ranks of the nodes of a block.

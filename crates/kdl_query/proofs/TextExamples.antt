@@ -5,10 +5,9 @@ use Rattle.std.specs.Prelude.{Some, None}
 use Rattle.kdl_text.specs.Bare.{bare, is_bare}
 use Rattle.kdl_text.specs.Chars.{Text, Star, is_space, is_newline_char, is_banned, is_punctuation, is_identifier_char}
 use Rattle.kdl_text.specs.Chars.Space.{space as space_char}
-use Rattle.kdl_text.specs.Trivia.{BlockComment, Escline}
+use Rattle.kdl_text.specs.Trivia.{BlockComment, Ws}
 use Rattle.kdl_text.specs.Trivia.Ws.{space as ws_space, comment as ws_comment}
-use Rattle.kdl_text.specs.Trivia.NodeSpace.{ws, escline}
-use Rattle.kdl_text.proofs.Spacing.SpaceUnique.{block_begins, newline_begins}
+use Rattle.kdl_text.proofs.Spacing.SpaceUnique.{backslash_no_newline, backslash_no_space, block_begins, newline_begins, slash_no_newline}
 use Rattle.kdl_syntax.specs.Pieces as piece
 use Rattle.kdl_syntax.proofs.Lexing.StringUnique.{string_begins}
 use Rattle.kdl_query.specs.Data.{Query, Selector, argument, compares, has, name, of_type, property, some_type, start, then, top, value}
@@ -24,20 +23,32 @@ use Rattle.kdl_query.proofs.Unique.{query_det, spaces_det}
 -- no space begins with an identifier character, or at the end of the text
 no_space_at : (c : ℕ) (s t : Text) → is_identifier_char c ≡ true → QuerySpace (c ∷ s) t → ⊥
 unfolding is_identifier_char is_space is_newline_char is_banned is_punctuation
-no_space_at c s t h (QuerySpace.space (ws (ws_space (space_char x)))) = grind (arith, nat_tests)
-no_space_at c s t h (QuerySpace.space (ws (ws_comment (BlockComment.block b)))) = cc
-no_space_at c s t h (QuerySpace.space (escline (Escline.escline a b))) = cc
+no_space_at c s t h (QuerySpace.ws (ws_space (space_char x))) = grind (arith, nat_tests)
+no_space_at c s t h (QuerySpace.ws (ws_comment (BlockComment.block b))) = cc
+no_space_at c s t h (QuerySpace.escline a n) = cc
+no_space_at c s t h (QuerySpace.last_escline a) = cc
 no_space_at c s t h (QuerySpace.newline n) = let x = newline_begins n in grind (arith, nat_tests)
 
 no_space_end : (t : Text) → QuerySpace [] t → ⊥
-no_space_end t (QuerySpace.space (ws (ws_space x))) = elim x [ ]
-no_space_end t (QuerySpace.space (ws (ws_comment b))) = elim b [ ]
-no_space_end t (QuerySpace.space (escline e)) = elim e [ ]
+no_space_end t (QuerySpace.ws (ws_space x)) = elim x [ ]
+no_space_end t (QuerySpace.ws (ws_comment b)) = elim b [ ]
 no_space_end t (QuerySpace.newline n) = elim n [ ]
 
--- no space begins with `//`
-pub no_line_comment : (s t : Text) → QuerySpace (47 ∷ 47 ∷ s) t → ⊥
-no_line_comment s t p = at_slash p (λ b. let h = block_begins b in cc)
+-- no space begins with `//`, and no escline has a line comment
+no_ws : (s t : Text) → Ws (47 ∷ 47 ∷ s) t → ⊥
+no_ws s t w = at_slash w (λ b. let h = block_begins b in cc)
+
+no_line_comment : (s t : Text) → QuerySpace (47 ∷ 47 ∷ s) t → ⊥
+no_line_comment s t (QuerySpace.ws w) = no_ws s t w
+no_line_comment s t (QuerySpace.newline n) = let x = newline_begins n in let y = slash_no_newline in cc
+
+no_comment_after : (s t : Text) → QuerySpace (92 ∷ 47 ∷ 47 ∷ s) t → ⊥
+no_comment_after s t (QuerySpace.ws (ws_space (space_char x))) = let y = backslash_no_space in cc
+no_comment_after s t (QuerySpace.ws (ws_comment b)) = let y = block_begins b in cc
+no_comment_after s t (QuerySpace.newline n) = let x = newline_begins n in let y = backslash_no_newline in cc
+no_comment_after s t (QuerySpace.escline Star.none n) = let x = newline_begins n in let y = slash_no_newline in cc
+no_comment_after s t (QuerySpace.escline (Star.more w a) n) = no_ws s _ w
+no_comment_after s t (QuerySpace.last_escline (Star.more w a)) = no_ws s _ w
 
 at_end : Spaces [] []
 at_end = record { run = Star.none; stops = no_space_end }

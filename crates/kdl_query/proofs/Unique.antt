@@ -1,6 +1,6 @@
 -- A text has at most one tree as a query; each piece of a query begins a text in one way at most.
-use Rattle.std.proofs.Common.{◌≡◌, ℕ, [], ◌∷◌, ◌++◌, true, false, codes, refl, sym, ap, subst}
-use Rattle.kdl_text.specs.Chars.{Text, begins, starts, is_space, is_newline_char, is_banned, is_punctuation, is_identifier_char}
+use Rattle.std.proofs.Common.{◌≡◌, ◌⊎◌, inl, inr, ℕ, [], ◌∷◌, ◌++◌, true, false, codes, refl, sym, ap, subst}
+use Rattle.kdl_text.specs.Chars.{Newline, Text, begins, starts, is_space, is_newline_char, is_banned, is_punctuation, is_identifier_char}
 use Rattle.std.proofs.lemmas.Bool.{and_parts}
 use Rattle.kdl_text.specs.Bare.{BareString, bare, is_bare}
 use Rattle.kdl_text.specs.Strings.{Run}
@@ -8,6 +8,7 @@ use Rattle.kdl_text.proofs.Looking.Stars.{longest_det}
 use Rattle.kdl_text.proofs.Quoted.StringUnique.{is_quoted_begins, is_raw_begins}
 use Rattle.kdl_text.proofs.Quoted.UnitUnique.{run_det}
 use Rattle.kdl_text.proofs.Numeric.NumberUnique.{whole_number_det}
+use Rattle.kdl_text.specs.Trivia.{EscEnd, Escline, NodeSpace}
 use Rattle.kdl_text.specs.Trivia.Break.{newline as break_newline}
 use Rattle.kdl_text.proofs.Spacing.NewlineUnique.{newline_det}
 use Rattle.kdl_text.proofs.Spacing.SpaceUnique.{node_space_det, space_or_break}
@@ -29,11 +30,20 @@ pub same_at : {A : Type 0} (X : Text → Text → A → Type 0) → Det X → (s
 same_at X d s t u v x y e a b = d s u v x y a (subst (λ z. X z v y) (sym e) b)
 
 -- spaces
+pub in_document : {s r : Text} → QuerySpace s r → NodeSpace s r ⊎ Newline s r
+in_document (QuerySpace.ws w) = inl (NodeSpace.ws w)
+in_document (QuerySpace.newline n) = inr n
+in_document (QuerySpace.escline a n) = inl (NodeSpace.escline (Escline.escline a (EscEnd.newline n)))
+in_document (QuerySpace.last_escline a) = inl (NodeSpace.escline (Escline.escline a EscEnd.ends))
+
 pub query_space_det : {s r t : Text} → QuerySpace s r → QuerySpace s t → r ≡ t
-query_space_det (QuerySpace.space p) (QuerySpace.space q) = node_space_det p q
-query_space_det (QuerySpace.space p) (QuerySpace.newline n) = absurd (space_or_break p (break_newline n))
-query_space_det (QuerySpace.newline n) (QuerySpace.space p) = absurd (space_or_break p (break_newline n))
-query_space_det (QuerySpace.newline n) (QuerySpace.newline m) = newline_det n m
+query_space_det p q = go (in_document p) (in_document q)
+  where
+    go : {s r t : Text} → NodeSpace s r ⊎ Newline s r → NodeSpace s t ⊎ Newline s t → r ≡ t
+    go (inl p) (inl q) = node_space_det p q
+    go (inl p) (inr n) = absurd (space_or_break p (break_newline n))
+    go (inr n) (inl p) = absurd (space_or_break p (break_newline n))
+    go (inr n) (inr m) = newline_det n m
 
 pub spaces_det : {s r t : Text} → Spaces s r → Spaces s t → r ≡ t
 spaces_det a b = longest_det (λ s r t p q. query_space_det p q) a.run a.stops b.run b.stops

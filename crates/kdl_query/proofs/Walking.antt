@@ -8,7 +8,7 @@ use Rattle.kdl.specs.Said.{said_child_nodes, said_nodes}
 use Rattle.kdl.specs.Tree.{node_says}
 use Rattle.kdl_query.specs.Selects.{Path}
 use Rattle.kdl_query.specs.Internal.Parts.{PartSays, ends, entered, has_block}
-use Rattle.kdl_query.specs.Internal.Visits.{LevelSays, Visited, due, inside_last, last_parts, level_at, level_due, level_left, next_parts, path_of, visit_of, visits, visits_inside, visits_of}
+use Rattle.kdl_query.specs.Internal.Visits.{LevelSays, Visited, due, inside_last, last_parts, level_at, level_due, level_left, next_parts, path_of, steps_at, visit_of, visits, visits_inside, visits_of}
 use Rattle.kdl_query.specs.declared.walk.Visit.{Visit}
 use Rattle.kdl_query.proofs.Counting.{next_length}
 
@@ -80,7 +80,7 @@ pub level_came : (q : Path) (l k : LevelSays) (v : Visit) → slice_get l.nodes 
     → level_due q l ≡ level_at q v k ∷ level_left q v k
 level_came q l k v e f g =
     let n = node_says v.node.now in
-    let at : Bool → ℕ → Visited = λ b looks. record { path = q ++ k.current ∷ []; said = n; is_selected = b; looks = looks } in
+    let at : Bool → ℕ → Visited = λ b i. record { path = q ++ k.current ∷ []; said = n; is_selected = b; steps = steps_at i n } in
     let looks : length k.parts ≡ length l.parts = ap (λ (m : LevelSays). length m.parts) f ∙ next_length n l.parts in
     level_next q l k n e f ∙ ap (λ b. at b (length l.parts) ∷ level_left q v k) (sym g) ∙ ap (λ i. at v.is_selected i ∷ level_left q v k) (sym looks)
 
@@ -93,14 +93,18 @@ walk_left_is ls ks k v e =
     ap (λ ms. inside_last ms n ++ due [] ms) e ∙ ap (λ vs. vs ++ due [] (ls ++ k ∷ [])) (inside_visited ls k n) ∙ ap (λ vs. inside ++ vs) (due_last [] ls k)
     ∙ sym (append_assoc inside (level_due (path_of ls) k) (due [] ls))
 
+-- as many parts as the innermost level has
+pub parts_last : (ls ks : List LevelSays) (k : LevelSays) → ks ≡ ls ++ k ∷ [] → length (last_parts ks) ≡ length k.parts
+parts_last ls ks k e = ap (λ ms. length (last_parts ms)) e ∙ ap (λ o. length (option_map_or (λ (m : LevelSays). m.parts) o [])) (last_level None ls k)
+
 pub walk_came : (ls ks : List LevelSays) (k : LevelSays) (v : Visit) → ks ≡ ls ++ k ∷ []
     → (level_at (path_of ls) v k ∷ level_left (path_of ls) v k) ++ due [] ls
-    ≡ record { path = path_of ks; said = node_says v.node.now; is_selected = v.is_selected; looks = length (last_parts ks) } ∷ (inside_last ks (node_says v.node.now) ++ due [] ks)
+    ≡ record { path = path_of ks; said = node_says v.node.now; is_selected = v.is_selected; steps = steps_at (length (last_parts ks)) (node_says v.node.now) } ∷ (inside_last ks (node_says v.node.now) ++ due [] ks)
 walk_came ls ks k v e =
-    let at : Path → ℕ → Visited = λ p looks. record { path = p; said = node_says v.node.now; is_selected = v.is_selected; looks = looks } in
+    let at : Path → ℕ → Visited = λ p i. record { path = p; said = node_says v.node.now; is_selected = v.is_selected; steps = steps_at i (node_says v.node.now) } in
     let left = inside_last ks (node_says v.node.now) ++ due [] ks in
     let path : path_of ks ≡ path_of ls ++ k.current ∷ [] = ap path_of e ∙ path_last ls k in
-    let looks : length (last_parts ks) ≡ length k.parts = ap (λ ms. length (last_parts ms)) e ∙ ap (λ o. length (option_map_or (λ (m : LevelSays). m.parts) o [])) (last_level None ls k) in
+    let looks = parts_last ls ks k e in
     ap (λ vs. level_at (path_of ls) v k ∷ vs) (sym (walk_left_is ls ks k v e)) ∙ ap (λ p. at p (length k.parts) ∷ left) (sym path) ∙ ap (λ i. at (path_of ks) i ∷ left) (sym looks)
 
 -- the block of the node that was visited last is due first, once it is entered

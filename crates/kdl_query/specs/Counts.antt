@@ -1,4 +1,4 @@
--- How many parts a query has, and how many nodes a document has.
+-- How many parts a query has, and how many nodes and blocks a document has.
 use Rattle.std.specs.List.{sum_by}
 use Rattle.std.specs.Prelude.{ℕ, suc, ◌+◌}
 use Rattle.kdl_grammar.specs.Data.{Node, node, Children, no_children, children, Nodes, none, first}
@@ -32,3 +32,16 @@ abbrev mutual
   pub count_below : Children → ℕ
   count_below no_children = 0
   count_below (children x) = node_count x
+
+abbrev mutual
+  -- the blocks of a document, at every depth; its own nodes are one too
+  pub block_count : Nodes → ℕ
+  block_count none = 1
+  block_count (first n x) = blocks_inside n + block_count x
+
+  pub blocks_inside : Node → ℕ
+  blocks_inside (node t s es k) = blocks_below k
+
+  pub blocks_below : Children → ℕ
+  blocks_below no_children = 0
+  blocks_below (children x) = block_count x

@@ -4,3 +4,4 @@ pub mod Parts
 pub mod Visits
 -- What the readers of query texts return.
 pub mod QueryReading
+pub mod Turns

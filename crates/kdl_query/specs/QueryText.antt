@@ -3,7 +3,7 @@ use Rattle.std.specs.Prelude.{◌≡◌, ◌⊎◌, ℕ, ◌<◌, ◌^◌, pos, 
 use Rattle.kdl_text.specs.Bare.{BareString}
 use Rattle.kdl_text.specs.Chars.{Newline, Text, Star, begins, begins_two, starts, is_digit, is_identifier_char}
 use Rattle.kdl_text.specs.Numbers.{WholeNumber, base_prefix}
-use Rattle.kdl_text.specs.Trivia.{NodeSpace}
+use Rattle.kdl_text.specs.Trivia.{Ws}
 use Rattle.kdl_value.specs.Data.{Value, text, integer, float}
 use Rattle.kdl_syntax.specs.Pieces.{StringPiece, PlainPiece}
 use Rattle.kdl_query.specs.Data.{Accessor, Literal, NodeTest, Query, Selector, Test, TypeTest, always, argument, arguments, compares, has, name, of_type, properties, property, some_type, start, then, top, ty, type_named, value}
@@ -12,10 +12,12 @@ use Rattle.kdl_query.specs.declared.tree.Combinator.TheVariants.{Child, Descenda
 use Rattle.kdl_query.specs.declared.tree.Comparison.{Comparison}
 use Rattle.kdl_query.specs.declared.tree.Comparison.TheVariants.{Equal, NotEqual, Greater, GreaterOrEqual, Less, LessOrEqual, StartsWith, EndsWith, Contains}
 
--- what may be between the parts of a query: a space, a block comment or an escline, or a newline; `//` begins none of these
+-- what may be between the parts of a query: a space, a block comment, a newline, or an escline, which has no line comment here
 pub data QuerySpace : Text → Text → Type 0 where
-  space : {s r : Text} → NodeSpace s r → QuerySpace s r
+  ws : {s r : Text} → Ws s r → QuerySpace s r
   newline : {s r : Text} → Newline s r → QuerySpace s r
+  escline : {s t r : Text} → Star Ws s t → Newline t r → QuerySpace (92 ∷ s) r
+  last_escline : {s : Text} → Star Ws s [] → QuerySpace (92 ∷ s) []
 
 -- as many of these as are here
 pub record Spaces (s r : Text) : Type 0 where

@@ -17,8 +17,9 @@
 //! Values compare by `=` and `!=`, numbers also by `<`, `<=`, `>` and `>=`, by their exact values, and strings by `^=`
 //! (begins with), `$=` (ends with) and `*=` (contains). Of several properties of a name the last one counts.
 //!
-//! [`Query::parse`] reads a query from its text, and a query prints such a text. [`query_paths`] returns exactly the paths
-//! that a query selects, in the order of the document, each once. [`edit_at`] edits the node at a path.
+//! [`Query::parse`] reads a query from its text, and a query prints such a text. Newlines and block comments are spaces in
+//! it; `//` is none. [`query_paths`] returns exactly the paths that a query selects, in the order of the document, each once,
+//! and [`query_turns`] returns them in memory that grows with the document alone. [`edit_at`] edits the node at a path.
 #![tactic(auto)]
 
 mod clone;
@@ -38,7 +39,7 @@ mod walk;
 
 pub use edit::edit_at;
 pub use error::{QueryError, QueryFailure};
-pub use find::{query, query_all, query_paths, query_paths_counted};
+pub use find::{Turn, query, query_all, query_paths, query_paths_counted, query_turns};
 pub use path::node_at;
 pub use tree::{
     Accessor, Combinator, Comparison, First, Literal, NodeTest, Query, Selector, Step, Test,

@@ -2,6 +2,7 @@
 #![tactic(auto, using(crate::proofs::Rules::parse))]
 
 ghost use Rattle.kdl_text.specs.Internal.Here.{Ahead};
+ghost use Rattle.kdl_text.specs.Internal.Reading.{Moves};
 ghost use Rattle.kdl_text.specs.Chars.{Text};
 ghost use Rattle.kdl_text.specs.Spans.{InText};
 ghost use Rattle.std.specs.Prelude.{◌≡◌, ◌++◌};
@@ -15,6 +16,7 @@ use crate::error::{Fault, QueryError, QueryFailure, Refusal};
 use crate::tree::Query;
 use kdl_text::chars::Class;
 use kdl_text::cursor::{Checkpoint, Cursor, Steps};
+use names::skip_ws;
 use selectors::read_selectors;
 use std::alloc::Global;
 
@@ -33,11 +35,27 @@ fn at_fault(fault: Fault, cursor: &mut Cursor) -> Fault
     fault
 }
 
-/// The error of a fault where the cursor is. Its span is the word or the character there, or `//`.
+/// Advances to the `//` after a backslash here, if only spaces and block comments are between them.
+fn skip_to_slashes(cursor: &mut Cursor)
+    ensures { Moves cursor.old cursor.new }
+{
+    let start = cursor.checkpoint();
+    if cursor.eat('\\') {
+        skip_ws(cursor);
+        if cursor.looks_two('/', '/') {
+            return;
+        }
+    }
+    cursor.go_to(&start);
+}
+
+/// The error of a fault where the cursor is. Its span is the word or the character there, or `//`, which may be in an escline
+/// that begins there.
 fn error_at<'a>(fault: Fault, start: &Checkpoint<'a>, cursor: &mut Cursor<'a>) -> QueryError
     requires { Ahead start.now record { rest = cursor.old.rest; at = cursor.old.at } }
     ensures { InText start.now.rest result.span }
 {
+    skip_to_slashes(cursor);
     let from = cursor.checkpoint();
     let fault = at_fault(fault, cursor);
     QueryError {

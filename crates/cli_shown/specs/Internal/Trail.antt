@@ -28,6 +28,6 @@ IsAt rs d p xs whole top = (d ≤ length rs) × AreRanksAlong (drop d rs) p xs �
 abbrev pub trail_ranks : Trail → List (List ℕ)
 trail_ranks t = map (λ b. b.items) t.blocks.items
 
--- a trail has the ranks along its path, in a document of these nodes
-abbrev pub IsTrail : Trail → List NodeData → Type 0
-IsTrail t xs = AreRanksAlong (trail_ranks t) t.path.now xs
+-- a trail has the ranks along the path, in a document of these nodes
+abbrev pub IsTrail : Trail → Path → List NodeData → Type 0
+IsTrail t p xs = AreRanksAlong (trail_ranks t) p xs

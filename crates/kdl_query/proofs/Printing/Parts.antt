@@ -12,9 +12,8 @@ use Rattle.kdl_text.specs.Chars.Space.{space as space_char}
 use Rattle.kdl_text.specs.Numbers.{WholeNumber, base_of, base_prefix, decimal_text, fits as number_fits, is_decimal, is_whole, signed, whole, whole_value}
 use Rattle.kdl_text.specs.declared.numbers.Keyword.{Keyword}
 use Rattle.kdl_text.specs.declared.numbers.Keyword.TheVariants.{True, False, Null, Infinity, NegativeInfinity, NotANumber}
-use Rattle.kdl_text.specs.Trivia.{BlockComment, Escline, ValueEnd}
+use Rattle.kdl_text.specs.Trivia.{BlockComment, ValueEnd}
 use Rattle.kdl_text.specs.Trivia.Ws.{space as ws_space, comment as ws_comment}
-use Rattle.kdl_text.specs.Trivia.NodeSpace.{ws, escline}
 use Rattle.kdl_text.proofs.Spacing.SpaceUnique.{newline_begins}
 use Rattle.kdl_value.specs.Data.{Value, text, integer, float, truth, null}
 use Rattle.kdl_value.specs.Print.{print_value}
@@ -39,9 +38,10 @@ abbrev pub is_spacing : ℕ → Bool
 is_spacing c = (is_space c || is_newline_char c) || (c == 47 || c == 92)
 
 no_space_here : (s t : Text) → starts is_spacing s ≡ false → QuerySpace s t → ⊥
-no_space_here s t h (QuerySpace.space (ws (ws_space (space_char x)))) = grind (arith, nat_tests)
-no_space_here s t h (QuerySpace.space (ws (ws_comment (BlockComment.block b)))) = grind (arith, nat_tests)
-no_space_here s t h (QuerySpace.space (escline (Escline.escline a b))) = grind (arith, nat_tests)
+no_space_here s t h (QuerySpace.ws (ws_space (space_char x))) = grind (arith, nat_tests)
+no_space_here s t h (QuerySpace.ws (ws_comment (BlockComment.block b))) = grind (arith, nat_tests)
+no_space_here s t h (QuerySpace.escline a n) = grind (arith, nat_tests)
+no_space_here s t h (QuerySpace.last_escline a) = grind (arith, nat_tests)
 no_space_here s t h (QuerySpace.newline n) = go s h (newline_begins n)
   where
     go : (s : Text) → starts is_spacing s ≡ false → starts is_newline_char s ≡ true → ⊥
@@ -54,7 +54,7 @@ none_here s h = record { run = Star.none; stops = λ t p. no_space_here s t h p 
 
 pub one_here : (s : Text) → starts is_spacing s ≡ false → Spaces (32 ∷ s) s
 unfolding is_space
-one_here s h = record { run = Star.more (QuerySpace.space (ws (ws_space (space_char refl)))) Star.none; stops = λ t p. no_space_here s t h p }
+one_here s h = record { run = Star.more (QuerySpace.ws (ws_space (space_char refl))) Star.none; stops = λ t p. no_space_here s t h p }
 
 front_no_space : (c : ℕ) → is_front c ≡ true → is_spacing c ≡ false
 unfolding is_identifier_char is_space is_newline_char is_banned is_punctuation

@@ -1,31 +1,38 @@
 -- The nodes of a document in the order in which a walk visits them.
 use Rattle.std.specs.List.{filter, last_or}
 use Rattle.std.specs.Option.{option_map_or}
-use Rattle.std.specs.Prelude.{◌≡◌, ℕ, suc, ◌+◌, Bool, List, [], ◌∷◌, ◌++◌, length, None, map, drop, slice_get}
+use Rattle.std.specs.Prelude.{◌≡◌, ℕ, suc, ◌+◌, Bool, List, [], ◌∷◌, ◌++◌, if◌then◌else◌, length, None, map, drop, slice_get}
 use Rattle.kdl.specs.Tree.{node_says}
 use Rattle.kdl.specs.declared.document.KdlDocument.{KdlDocument}
 use Rattle.kdl_grammar.specs.Data.{Node, node, Children, no_children, children, Nodes, none, first}
 use Rattle.kdl_query.specs.Data.{Query}
 use Rattle.kdl_query.specs.Held.{held_at}
 use Rattle.kdl_query.specs.Selects.{Path}
-use Rattle.kdl_query.specs.Internal.Parts.{PartSays, ends, entered, part_says, query_parts, visited}
+use Rattle.kdl_query.specs.Internal.Parts.{PartSays, ends, entered, has_block, part_says, query_parts, visited}
 use Rattle.kdl_query.specs.declared.walk.Level.{Level}
 use Rattle.kdl_query.specs.declared.walk.Visit.{Visit}
 use Rattle.kdl_query.specs.declared.walk.Walk.{Walk}
 use Rattle.std.specs.Prelude.{false}
 
--- a node that is visited: its path, what it says, whether a selector ends there, and for how many parts it is looked at
+-- the steps at a node: a look for each of the parts, and a copy of each if it has a block
+abbrev pub copies : ℕ → Node → ℕ
+copies k n = if has_block n then k else 0
+
+abbrev pub steps_at : ℕ → Node → ℕ
+steps_at k n = k + copies k n
+
+-- a node that is visited: its path, what it says, whether a selector ends there, and how many steps it takes
 pub record Visited : Type 0 where
   pub path : Path
   pub said : Node
   pub is_selected : Bool
-  pub looks : ℕ
+  pub steps : ℕ
 
 abbrev pub next_parts : Node → List PartSays → List PartSays
 next_parts n ps = visited n false ps
 
 abbrev pub visit_of : Path → List PartSays → Node → Visited
-visit_of p ps n = record { path = p; said = n; is_selected = ends n false ps; looks = length ps }
+visit_of p ps n = record { path = p; said = n; is_selected = ends n false ps; steps = steps_at (length ps) n }
 
 abbrev mutual
   -- the nodes from place i on in the block at q, and those inside them
@@ -97,11 +104,11 @@ last_parts ls = option_map_or (λ l. l.parts) (last_or None ls) []
 
 -- the node that a walk came to
 abbrev pub came_to : Visit → Walk → Visited
-came_to v w = record { path = path_of (levels_of w); said = node_says v.node.now; is_selected = v.is_selected; looks = length (last_parts (levels_of w)) }
+came_to v w = record { path = path_of (levels_of w); said = node_says v.node.now; is_selected = v.is_selected; steps = steps_at (length (last_parts (levels_of w))) (node_says v.node.now) }
 
 -- the node that a walk came to in the block at q, and those that are still to be visited from there
 abbrev pub level_at : Path → Visit → LevelSays → Visited
-level_at q v l = record { path = q ++ l.current ∷ []; said = node_says v.node.now; is_selected = v.is_selected; looks = length l.parts }
+level_at q v l = record { path = q ++ l.current ∷ []; said = node_says v.node.now; is_selected = v.is_selected; steps = steps_at (length l.parts) (node_says v.node.now) }
 
 abbrev pub level_left : Path → Visit → LevelSays → List Visited
 level_left q v l = visits_inside (q ++ l.current ∷ []) (entered l.parts) (node_says v.node.now) ++ level_due q l
@@ -109,10 +116,17 @@ level_left q v l = visits_inside (q ++ l.current ∷ []) (entered l.parts) (node
 abbrev pub walk_left : Visit → Walk → List Visited
 walk_left v w = inside_last (levels_of w) (node_says v.node.now) ++ walk_due w
 
--- the looks at all of them
-abbrev pub looks_of : List Visited → ℕ
-looks_of [] = 0
-looks_of (v ∷ vs) = v.looks + looks_of vs
+-- the steps at all of them
+abbrev pub steps_of : List Visited → ℕ
+steps_of [] = 0
+steps_of (v ∷ vs) = v.steps + steps_of vs
+
+-- those that are still due after a node that a walk came to: first the copies for its block
+abbrev pub steps_left : Visit → Walk → ℕ
+steps_left v w = copies (length (last_parts (levels_of w))) (node_says v.node.now) + steps_of (walk_left v w)
+
+abbrev pub level_steps_left : Path → Visit → LevelSays → ℕ
+level_steps_left q v l = copies (length l.parts) (node_says v.node.now) + steps_of (level_left q v l)
 
 -- the paths, and the nodes, that are selected
 abbrev pub chosen : List Visited → List Visited

@@ -4,18 +4,19 @@
 ghost use Rattle.kdl_query.specs.Internal.QueryReading.{AteText, Closes, IsWord, OneChar, ReadsPiece, TypeRest};
 ghost use Rattle.kdl_query.specs.QueryText.{IsName, IsOperatorWord, QuerySpace, Spaces};
 ghost use Rattle.kdl_query.specs.Tree.{type_test_says};
-ghost use Rattle.kdl_text.specs.Chars.{starts};
+ghost use Rattle.kdl_text.specs.Chars.{begins, starts};
 ghost use Rattle.kdl_text.specs.Internal.Here.{IsPart};
-ghost use Rattle.kdl_text.specs.Internal.Reading.{Moves, Reads};
+ghost use Rattle.kdl_text.specs.Internal.Reading.{Longest, Moves, Reads};
+ghost use Rattle.kdl_text.specs.Trivia.{Ws};
 ghost use Rattle.kdl_value.specs.Tree.{text_of};
-ghost use Rattle.std.specs.Prelude.{◌≡◌, ◌||◌, ◌==◌, ◌↔◌, IsTrue, false};
+ghost use Rattle.std.specs.Prelude.{◌≡◌, ◌||◌, ◌==◌, ◌↔◌, IsTrue, false, true};
 
 use crate::error::{Fault, Refusal};
 use crate::tree::TypeTest;
 use kdl_text::chars::is_space;
 use kdl_text::cursor::{Checkpoint, Cursor, Piece, newline};
 use kdl_text::strings::{StringFailure, bare_string, quoted_string, raw_string};
-use kdl_text::trivia::{SlashRead, escline, slash};
+use kdl_text::trivia::{SlashRead, slash};
 use std::alloc::Global;
 
 /// Moves the cursor back to a place, and returns the fault there.
@@ -56,9 +57,9 @@ pub(super) fn eat_text(text: &str, cursor: &mut Cursor) -> bool
     true
 }
 
-/// Advances past what may be a space that begins here, and returns whether it is one. `//` is none.
-fn passes_space(cursor: &mut Cursor) -> bool
-    ensures reads { Reads QuerySpace result cursor.old.rest cursor.new.rest }
+/// Advances past what may be a space or a block comment that begins here, and returns whether it is one.
+fn passes_ws(cursor: &mut Cursor) -> bool
+    ensures reads { Reads Ws result cursor.old.rest cursor.new.rest }
     ensures moves { Moves cursor.old cursor.new }
 {
     match cursor.look() {
@@ -66,12 +67,55 @@ fn passes_space(cursor: &mut Cursor) -> bool
             SlashRead::Block => true,
             SlashRead::Line | SlashRead::Dash | SlashRead::Unclosed | SlashRead::Other => false,
         },
-        Some('\\') => escline(cursor),
         Some(c) if is_space(c) => {
             cursor.step();
             true
         }
-        _ => newline(cursor),
+        _ => false,
+    }
+}
+
+/// Advances past a space or a block comment if one begins here, and returns whether it does.
+fn eat_ws(cursor: &mut Cursor) -> bool
+    ensures reads { Reads Ws result cursor.old.rest cursor.new.rest }
+    ensures stays { result ≡ false → cursor.new.rest ≡ cursor.old.rest }
+    ensures moves { Moves cursor.old cursor.new }
+{
+    let start = cursor.checkpoint();
+    let is_ws = passes_ws(cursor);
+    if !is_ws {
+        cursor.go_to(&start);
+    }
+    is_ws
+}
+
+/// Advances past all spaces and block comments here.
+pub(super) fn skip_ws(cursor: &mut Cursor)
+    ensures reads { Longest Ws cursor.old.rest cursor.new.rest }
+    ensures moves { Moves cursor.old cursor.new }
+{
+    'ws: while eat_ws(cursor) {}
+}
+
+/// Advances past what may be an escline without a line comment whose backslash is here, and returns whether it is one.
+fn passes_escline(cursor: &mut Cursor) -> bool
+    requires { begins 92 cursor.old.rest ≡ true }
+    ensures reads { Reads QuerySpace result cursor.old.rest cursor.new.rest }
+    ensures moves { Moves cursor.old cursor.new }
+{
+    let _ = cursor.eat('\\');
+    skip_ws(cursor);
+    newline(cursor) || cursor.look().is_none()
+}
+
+/// Advances past what may be a space of a query that begins here, and returns whether it is one. `//` is none.
+fn passes_space(cursor: &mut Cursor) -> bool
+    ensures reads { Reads QuerySpace result cursor.old.rest cursor.new.rest }
+    ensures moves { Moves cursor.old cursor.new }
+{
+    match cursor.look() {
+        Some('\\') => passes_escline(cursor),
+        _ => eat_ws(cursor) || newline(cursor),
     }
 }
 

@@ -10,7 +10,7 @@ loop-index-preserved c =
     let l = c.loop-index in
     let i = c.in-Some.index.now in
     let p = c.in-Some.below.now in
-    let whole = c.args.trail.now.path.now in
+    let whole = c.args.path.now in
     let top = map node_says c.args.nodes.now in
     let xs = map node_says l.nodes.now in
     let split = c.in-Some.ensures.cases.0 in
@@ -22,6 +22,5 @@ loop-index-preserved c =
     at reached (sym c.in-Some-nth.ensures) c.inside-nodes.ensures (c.in_ok-push_step.ensures ∙ ap (λ (k : ℕ). string_bytes l.out ++ name_bytes (said_name (node_says c.in-Some-nth.node.now)) ++ index_bytes k) c.rank.ensures) c.in_ok-push_separator.ensures in
     record {
       text = more.0 ∙ ap (λ (q : List ℕ). string_bytes l.out ++ path_bytes q xs) (sym split) ∙ l.invariant.text;
-      path = c.in_ok-reach.ensures.path ∙ l.invariant.path;
       at = more.1;
     }

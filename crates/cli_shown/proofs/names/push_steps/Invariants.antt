@@ -7,9 +7,8 @@ use Rattle.cli_shown.proofs.names.push_steps.Given as goal
 -- the steps so far, and those of the rest, are all
 abbrev pub invariant-loop-index : goal.invariant-loop-index
 invariant-loop-index l = record {
-  text : string_bytes l.out ++ path_bytes l.rest (map node_says l.nodes) ≡ string_bytes l.fn.out ++ path_bytes l.fn.trail.path.now (map node_says l.fn.nodes);
-  path : l.trail.path ≡ l.fn.trail.path;
-  at : IsAt (trail_ranks l.trail) l.depth l.rest (map node_says l.nodes) l.fn.trail.path.now (map node_says l.fn.nodes);
+  text : string_bytes l.out ++ path_bytes l.rest (map node_says l.nodes) ≡ string_bytes l.fn.out ++ path_bytes l.fn.path (map node_says l.fn.nodes);
+  at : IsAt (trail_ranks l.trail) l.depth l.rest (map node_says l.nodes) l.fn.path (map node_says l.fn.nodes);
 }
 
 abbrev pub decreases-loop-index : goal.decreases-loop-index

@@ -1,17 +1,18 @@
-use Rattle.std.proofs.Common.{◌∙◌, Global, List, Vec, ap, map, sym, ℕ}
+use Rattle.std.proofs.Common.{[], List, ap, sym, ◌∙◌}
 use Rattle.std.specs.List.{flat_map}
-use Rattle.std.proofs.lemmas.List.{length-map}
+use Rattle.kdl_query.specs.Turns.{paths_from}
+use Rattle.kdl_query.specs.declared.find.Turn.{Turn}
 use Rattle.cli_shown.specs.Nodes.{shown_at}
 use Rattle.cli_shown.specs.declared.nodes.View.TheVariants.{Paths}
+use Rattle.cli_shown.proofs.Views.{paths_counted}
 use Rattle.cli_shown.proofs.nodes.shown_paths.Goals as goal
 
 pub returns : goal.returns
 returns c =
-    let d = c.args.document.now in
-    let paths = c.in_ok-paths.paths in
+    let turns = c.in_ok-turns.turns in
     record {
-      paths = map (λ p. p.items) paths.items;
-      selection = c.in_ok-paths.ensures;
-      counts = c.len.ensures ∙ paths.ok.0 ∙ sym (length-map paths.items (λ p. p.items));
-      shows = c.in_ok-path_lines.ensures ∙ ap (λ (ps : List (Vec ℕ Global)). flat_map (shown_at Paths d) (map (λ p. p.items) ps)) c.deref.ensures.value;
+      paths = paths_from [] turns.items;
+      selection = c.in_ok-turns.ensures.selected;
+      counts = c.len.ensures ∙ turns.ok.0 ∙ sym (paths_counted [] turns.items);
+      shows = c.in_ok-path_lines.ensures ∙ ap (λ (ts : List Turn). flat_map (shown_at Paths c.args.document.now) (paths_from [] ts)) c.deref.ensures.value;
     }

@@ -1,27 +1,24 @@
-use Rattle.std.proofs.Common.{Some, sym, ap, ◌∙◌}
-use Rattle.kdl_text.specs.Internal.Here.{tail}
-use Rattle.kdl_text.proofs.Looking.MovesJoin.{moves_then, moves_one, moves_stayed, stayed_looked, took_from}
-use Rattle.kdl_query.proofs.Spacing.{slash_is, slash_not, space_here, other_char, other_end, newline_reads}
+use Rattle.std.proofs.Common.{◌≡◌, None, Some, ap, false, refl, subst, sym, true, ◌∙◌}
+use Rattle.kdl_text.specs.Internal.Here.{first}
+use Rattle.kdl_text.specs.Internal.Reading.{Reads}
+use Rattle.kdl_text.specs.Trivia.{Ws}
+use Rattle.kdl_query.specs.QueryText.{QuerySpace}
+use Rattle.kdl_query.proofs.Spacing.{newline_reads, ws_reads}
 use Rattle.kdl_query.proofs.parse.names.passes_space.Goals as goal
-use Rattle.kdl_query.proofs.parse.names.passes_space.Goals.{in_default-via-in-Some+else-is_space, in_default-via-in_default}
+use Rattle.kdl_query.proofs.parse.names.passes_space.Goals.{in_default-via-in-Some+in_default, in_default-via-in_default}
 
-pub returns-in-Block-clause-reads : goal.returns-in-Block-clause-reads
-returns-in-Block-clause-reads c = slash_is _ _ _ _ c.look.ensures.moved c.in-Block.is c.slash.ensures.reads
+pub returns-then-eat_ws-clause-reads : goal.returns-then-eat_ws-clause-reads
+returns-then-eat_ws-clause-reads c = rw c.if-eat_ws.true (subst (λ s. Reads QuerySpace true s c.eat_ws.new.cursor.rest) (ap (λ z. z.rest) c.look.ensures.moved) (ws_reads _ _ c.if-eat_ws.ensures.reads))
 
-pub returns-in-Line : goal.returns-in-Line
-returns-in-Line c = record {
-  reads = slash_not _ _ _ _ (sym c.look.ensures.result ∙ c.in-Some-eq47.is ∙ ap Some c.in-Some-eq47.field-0-test) c.look.ensures.moved c.in-Line.is c.slash.ensures.reads;
-  moves = moves_then (moves_stayed (stayed_looked _ _ c.look.ensures.moved)) c.slash.ensures.moves;
-}
-
-pub returns-in-Some-clause-reads : goal.returns-in-Some-clause-reads
-returns-in-Some-clause-reads c = space_here _ _ _ (sym c.look.ensures.result ∙ c.in-Some.is) (sym c.is_space.ensures ∙ c.if-is_space.true) (ap (λ z. z.rest) c.step.ensures ∙ ap (λ z. tail z.rest) c.look.ensures.moved)
-
-pub returns-in-Some-clause-moves : goal.returns-in-Some-clause-moves
-returns-in-Some-clause-moves c = moves_one (took_from _ _ _ _ (sym c.in-Some.is ∙ c.look.ensures.result) c.look.ensures.moved c.step.ensures)
-
-pub returns-in_default-clause-reads : goal.returns-in_default-clause-reads
-returns-in_default-clause-reads c = elim c.in_default.branch [
-  | in_default-via-in-Some+else-is_space w ↦ newline_reads _ _ _ _ (other_char _ _ (sym c.look.ensures.result ∙ w.in-Some.is) w.in-Some.c-test.0.1 w.in-Some.c-test.1 (sym w.is_space.ensures ∙ w.if-is_space.false)) c.look.ensures.moved c.newline.ensures.reads
-  | in_default-via-in_default w ↦ newline_reads _ _ _ _ (other_end _ (sym c.look.ensures.result ∙ w.in_default.is)) c.look.ensures.moved c.newline.ensures.reads
-]
+pub returns-else-eat_ws-clause-reads : goal.returns-else-eat_ws-clause-reads
+returns-else-eat_ws-clause-reads c =
+    let at = ap (λ z. z.rest) c.look.ensures.moved in
+    let no_backslash : first c.args.cursor.now.rest ≡ Some 92 → ⊥ = λ e. elim c.in_default.branch [
+      | in_default-via-in-Some+in_default w ↦
+          let all : Some w.in_default.field-0 ≡ Some 92 = sym w.in_default.is ∙ c.look.ensures.result ∙ e in
+          w.in_default.field-0-test.1 (cc (all))
+      | in_default-via-in_default w ↦
+          let all : None ≡ Some 92 = sym w.in_default.is ∙ c.look.ensures.result ∙ e in
+          absurd (cc (all))
+    ] in
+    newline_reads c.newline.result _ _ _ no_backslash (subst (λ s. Reads Ws false s c.eat_ws.new.cursor.rest) at c.if-eat_ws.ensures.reads) (c.if-eat_ws.ensures.stays refl ∙ at) c.newline.ensures.reads
