@@ -117,8 +117,8 @@ uint32_t kdl_format(struct kdl_document *document);
 uint32_t kdl_strip(struct kdl_document *document);
 
 /* How kdl_layout lays a document out. A flag is set if it is not 0. {0} is the layout of
- * kdl_format, but comments inside a type, after it and around `=` stay, and a document or a block
- * without nodes gets no newline in their place: without comments, the block is {}. */
+ * kdl_format, but all comments stay, also inside a type, after it and around `=`, and a document
+ * or a block without nodes gets no newline in their place: without comments, the block is {}. */
 struct kdl_layout_options {
     size_t blank_lines;     /* the greatest number of empty lines that are kept between two nodes or
                                comments */

@@ -9,7 +9,7 @@ ghost use Rattle.c_calls.specs.declared.status.Refused.TheVariants.{NotFound};
 ghost use Rattle.std.specs.Prelude.{◌≡◌, ◌<◌, ◌≤◌, ◌∷◌, [], IfErr, IfSome, IsNone, OnErr, OnOk, length};
 
 use crate::held::Handle;
-use crate::status::{NO_DOCUMENT, OK, Refused};
+use crate::status::{NO_DOCUMENT, NOT_FOUND, OK, Refused};
 use kdl::{KdlDocument, KdlNode};
 use std::alloc::Global;
 
@@ -71,28 +71,26 @@ pub fn remove_first(alloc: Global, document: &mut Handle, index: usize) -> u32
     ensures missing { result ≡ 5 → IsNone document.old.held.document }
     ensures absent { result ≡ 6 → IfSome document.old.held.document (λ d.
         length (nodes_of d) ≤ index) }
-    ensures statuses { IsAmong (0 ∷ 3 ∷ 5 ∷ 6 ∷ []) result }
+    ensures statuses { IsAmong (0 ∷ 5 ∷ 6 ∷ []) result }
 {
     let Some(mut held) = document.take(alloc) else {
         return NO_DOCUMENT;
     };
-    let status = match remove_from(&mut held, index) {
-        Ok(()) => OK,
-        Err(refused) => refused.status(),
-    };
+    let status = remove_from(&mut held, index);
     document.put(held);
     status
 }
 
-/// Removes the node at the index. Fails if there is none.
-fn remove_from(document: &mut KdlDocument, index: usize) -> Result<(), Refused>
-    ensures done { OnOk result (FirstRemoved index document.old document.new) }
-    ensures refused { OnErr result (SameTree document.old document.new) }
-    ensures absent { IfErr result (λ r. r ≡ NotFound → length (nodes_of document.old) ≤ index) }
+/// Removes the node at the index. Returns `NOT_FOUND` if there is none.
+fn remove_from(document: &mut KdlDocument, index: usize) -> u32
+    ensures done { result ≡ 0 → FirstRemoved index document.old document.new }
+    ensures kept { (result ≡ 0 → ⊥) → SameTree document.old document.new }
+    ensures absent { result ≡ 6 → length (nodes_of document.old) ≤ index }
+    ensures statuses { IsAmong (0 ∷ 6 ∷ []) result }
 {
     if document.nodes().len() <= index {
-        return Err(Refused::NotFound);
+        return NOT_FOUND;
     }
     drop(document.remove_node(index));
-    Ok(())
+    OK
 }

@@ -1,6 +1,6 @@
 //! Formatting of documents.
 
-ghost use Rattle.kdl.specs.Words.{CommentsStay, DocumentKeepsNoForm, DocumentKeepsReading, DocumentLaidOut, DocumentReadsBack, IsDocument, Text, canonical_text, defaults, document_prints, document_says, document_tree, without_comments};
+ghost use Rattle.kdl.specs.Words.{AllCommentsStay, CommentsStay, DocumentKeepsNoForm, DocumentKeepsReading, DocumentLaidOut, DocumentReadsBack, IsDocument, Text, canonical_text, defaults, document_prints, document_says, document_tree, without_comments};
 ghost use Rattle.c_calls.specs.Answers.{IsAmong};
 ghost use Rattle.c_calls.specs.LaidOut.{AreSpaces, IsLaidOut, IsLaidOutAs, settings_of};
 ghost use Rattle.std.specs.Prelude.{◌≡◌, ◌∷◌, [], IfOk, string_bytes};
@@ -13,7 +13,7 @@ use std::alloc::{AllocError, Global};
 /// Formats the document, with its comments, as `KdlDocument::autoformat` does.
 ///
 /// Returns `OUT_OF_MEMORY` if an allocation fails. The data of the document is then unchanged, and some of it may be
-/// formatted. It still prints a text with the same data if it did before.
+/// formatted. It still reads back if it did before, and if each entry that keeps its form reads back in it.
 pub fn format(document: &mut KdlDocument) -> u32
     ensures data { document_says document.new ≡ document_says document.old }
     ensures reads_back { DocumentKeepsReading defaults document.old
@@ -34,7 +34,7 @@ pub fn format(document: &mut KdlDocument) -> u32
 /// Formats the document, without its comments, as `KdlDocument::autoformat_no_comments` does.
 ///
 /// Returns `OUT_OF_MEMORY` if an allocation fails. The data of the document is then unchanged, and some of it may be
-/// formatted. It still prints a text with the same data if it did before.
+/// formatted. It still reads back if it did before, and if each entry that keeps its form reads back in it.
 pub fn strip(document: &mut KdlDocument) -> u32
     ensures data { document_says document.new ≡ document_says document.old }
     ensures reads_back { DocumentKeepsReading without_comments document.old
@@ -65,13 +65,13 @@ pub struct KdlLayout {
     pub keep_one_line: u32,
 }
 
-/// Lays the document out as `KdlDocument::autoformat_layout` does, with the indent once for each level. Comments inside
-/// entries and types stay, unless comments are removed. A document or a block without nodes ends without an empty
-/// line.
+/// Lays the document out as `KdlDocument::autoformat_layout` does, with the indent once for each level. All comments
+/// stay, also inside entries and types, unless comments are removed. A document or a block without nodes ends without an
+/// empty line.
 ///
 /// Returns `FAULTS` if the indent has another character than the spaces of KDL, and leaves the document unchanged.
 /// Returns `OUT_OF_MEMORY` if an allocation fails. The data of the document is then unchanged, and some of it may be laid
-/// out. It still prints a text with the same data if it did before.
+/// out. It still reads back if it did before, and if each entry that keeps its form reads back in it.
 pub fn lay_out(document: &mut KdlDocument, layout: &KdlLayout, indent: &str) -> u32
     ensures data { document_says document.new ≡ document_says document.old }
     ensures reads_back { DocumentKeepsReading (settings_of layout.now (chars indent.now)) document.old
@@ -82,7 +82,7 @@ pub fn lay_out(document: &mut KdlDocument, layout: &KdlLayout, indent: &str) -> 
         → IsDocument (document_prints document.new) (document_says document.old) }
     ensures comments { result ≡ 0 → layout.now.no_comments ≡ 0
         → DocumentKeepsNoForm document.old
-        → CommentsStay (document_tree document.old) (document_prints document.new) }
+        → AllCommentsStay (document_tree document.old) (document_prints document.new) }
     ensures refused { result ≡ 1 → AreSpaces (chars indent.now) → ⊥ }
     ensures kept { (result ≡ 0 → ⊥) → (result ≡ 3 → ⊥) → document.new ≡ document.old }
     ensures statuses { IsAmong (0 ∷ 1 ∷ 3 ∷ []) result }

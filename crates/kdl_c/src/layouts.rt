@@ -1,6 +1,6 @@
 //! Layout of documents and texts.
 
-ghost use Rattle.kdl.specs.Words.{CommentsStay, DocumentKeepsNoForm, DocumentKeepsReading, DocumentLaidOut, DocumentReadsBack, IsDocument, Nodes, Text, canonical_text, defaults, document_prints, document_says, document_tree, without_comments};
+ghost use Rattle.kdl.specs.Words.{AllCommentsStay, CommentsStay, DocumentKeepsNoForm, DocumentKeepsReading, DocumentLaidOut, DocumentReadsBack, IsDocument, Nodes, Text, canonical_text, defaults, document_prints, document_says, document_tree, without_comments};
 ghost use Rattle.c_calls.specs.Answers.{Each, IsAmong};
 ghost use Rattle.c_calls.specs.LaidOut.{AreSpaces, IsLaidOutAs, IsTextLaidOut, settings_of};
 ghost use Rattle.std.specs.Prelude.{◌≡◌, ◌++◌, ◌<◌, ◌∷◌, [], IsNone, drop, length};
@@ -67,9 +67,9 @@ pub extern "C" fn kdl_strip(alloc: Global, document: &mut Handle) -> u32
     status
 }
 
-/// Lays the document out with the indent once for each level. Its data do not change. Returns `FAULTS` if the indent has
-/// another character than the spaces of KDL. If an allocation fails, a part of the document may already be laid out. It
-/// still reads back if it did before.
+/// Lays the document out with the indent once for each level. Its data do not change, and all comments stay, unless the
+/// layout removes comments. Returns `FAULTS` if the indent has another character than the spaces of KDL. If an allocation
+/// fails, a part of the document may already be laid out. It still reads back if it did before.
 #[unsafe(no_mangle)]
 pub extern "C" fn kdl_layout(
     alloc: Global,
@@ -90,7 +90,7 @@ pub extern "C" fn kdl_layout(
         document.old.held.document document.new.held.document }
     ensures comments { result ≡ 0 → layout.now.no_comments ≡ 0
         → Each (λ d e. DocumentKeepsNoForm d
-        → CommentsStay (document_tree d) (document_prints e))
+        → AllCommentsStay (document_tree d) (document_prints e))
         document.old.held.document document.new.held.document }
     ensures refused { result ≡ 1 → AreSpaces (chars indent.now) → ⊥ }
     ensures utf8 { result ≡ 2 → IsUtf8 indent.now → ⊥ }
