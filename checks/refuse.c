@@ -1,11 +1,10 @@
 /* Makes one allocation of a program fail: the one whose number is REFUSE, counted from 1. It is loaded before the program
-   (LD_PRELOAD). When an allocation fails, a line is written to the program's descriptor 9. With COUNT set, the number of
-   all allocations is written there when the program ends. */
+   (LD_PRELOAD). With COUNT set, the number of all allocations is written to the file of that name when the program ends. */
 #include <errno.h>
+#include <fcntl.h>
 #include <stddef.h>
 #include <stdio.h>
 #include <stdlib.h>
-#include <unistd.h>
 
 extern void *__libc_malloc(size_t size);
 extern void *__libc_realloc(void *old, size_t size);
@@ -19,8 +18,10 @@ __attribute__((constructor)) static void begin(void) {
 }
 
 __attribute__((destructor)) static void end(void) {
-    if (getenv("COUNT")) {
-        dprintf(9, "%ld\n", all);
+    const char *path = getenv("COUNT");
+    int file = path ? creat(path, 0600) : -1;
+    if (file >= 0) {
+        dprintf(file, "%ld\n", all);
     }
 }
 
@@ -29,8 +30,6 @@ static int is_refused(void) {
     if (left == 0 || --left != 0) {
         return 0;
     }
-    ssize_t told = write(9, "refused\n", 8);
-    (void)told;
     errno = ENOMEM;
     return 1;
 }

@@ -6,20 +6,21 @@ use Rattle.std.proofs.lemmas.List.{append_cancel_left}
 use Rattle.std.proofs.lemmas.Slice.Eq.{bytes_eq-Decides}
 use Rattle.watched.specs.Streams.{Gets}
 use Rattle.cli_world.specs.Acts.{Does, Effect, Happens, Prints, Replaces}
-use Rattle.cli_world.specs.Acts.Acts.{acts, unread}
+use Rattle.cli_world.specs.Acts.Acts.{acts, lost, refuses}
 use Rattle.cli_world.specs.Acts.Does.{does, memory}
 use Rattle.cli_world.specs.Acts.Effect.{prints, replaces, reports}
 use Rattle.cli_world.specs.Acts.Happens.{printed, unprinted, reported, replaced, unreplaced}
 use Rattle.cli_world.proofs.Refuted.{all_stay, others_stay}
-use Rattle.cli_world.specs.Seen.{FilesStay, IsUnread, Seen}
+use Rattle.cli_world.specs.Seen.{FilesStay, Seen}
 use Rattle.cli_world.specs.Tallies.{plain}
 use Rattle.cli_world.specs.declared.status.Status.{Status}
-use Rattle.cli_world.specs.declared.status.Status.TheVariants.{Done, Found, Usage, Failed}
+use Rattle.cli_world.specs.declared.status.Status.TheVariants.{Done, Found, Usage}
 use Rattle.cli_world.specs.declared.tally.Tally.{Tally}
 use Rattle.kdl_path.specs.declared.path.Path.{Path}
 use Rattle.cli.specs.Asks.{Asks, AsksFile, Gives, delivery}
 use Rattle.cli.specs.Asks.Asks.{gives, misused, not_there, refused}
 use Rattle.cli.specs.Edits.{SetsFile}
+use Rattle.cli.specs.Reports.{ReportsNotUtf8}
 use Rattle.cli.specs.Requests.{RunsAsk}
 use Rattle.cli.specs.Shown.{asked}
 use Rattle.cli_shown.specs.Values.{line_of, shown_value}
@@ -32,6 +33,7 @@ use Rattle.std.specs.List.{flat_map}
 use Rattle.cli.specs.declared.ask.Action.{Action}
 use Rattle.cli.specs.declared.ask.Action.TheVariants.{Get, Json, Set}
 use Rattle.cli.specs.declared.ask.Ask.{Ask}
+use Rattle.cli.specs.declared.report.Style.{Style}
 
 pub some_same : {A : Type 0} {a b : A} → Some a ≡ Some b → a ≡ b
 some_same e = cc
@@ -47,12 +49,10 @@ no_line (x ∷ a) b e = absurd cc
 pub report_not_done : (name b : List ℕ) (old new : Seen) (s : Status) (t : Tally) → (s ≡ Done → ⊥) → Happens name old new (reports b s) t → t.status ≡ Done → ⊥
 report_not_done name b old new s t n (reported r) d = n d
 
--- a file that has no text
-pub unread_not_done : (name : List ℕ) (old new : Seen) (s : Status) → s ≡ Done → IsUnread name old new s → ⊥
-unread_not_done name old new Done e u = u
-unread_not_done name old new Found e u = cc
-unread_not_done name old new Usage e u = cc
-unread_not_done name old new Failed e u = cc
+-- a report on bytes that are not UTF-8
+pub bad_not_done : (style : Style) (name bytes : List ℕ) (old new : Seen) (t : Tally) → Does (ReportsNotUtf8 style name bytes) name old new t → t.status ≡ Done → ⊥
+bad_not_done style name bytes old new _ (does {e} {t} (error, bad, is) h) d = report_not_done _ _ old new Found t (λ e. cc) (subst (λ (x : Effect). Happens name old new x t) is h) d
+bad_not_done style name bytes old new _ (memory r) d = cc
 
 -- what is done for an action that ends with `Done`
 given : (ask : Ask) (old new : Seen) (e : Effect) (t : Tally) (text : List ℕ) → Asks ask text e → Happens ask.name.now old new e t → t.status ≡ Done
@@ -71,7 +71,8 @@ file_given : (ask : Ask) (old new : Seen) (t : Tally) (text : List ℕ) → Asks
     → (out : List ℕ) × Gives ask.action text out × Happens ask.name.now old new (delivery ask.replace text out) t
 file_given ask old new _ text (acts {text = text'} {t} has u done) d f =
     subst (λ (x : List ℕ). (out : List ℕ) × Gives ask.action x out × Happens ask.name.now old new (delivery ask.replace x out) t) (sym (has text f)) (done_given ask old new t text' done d)
-file_given ask old new _ text (unread {s} u) d f = absurd (unread_not_done ask.name.now old new s d u)
+file_given ask old new t text (refuses {bytes} has bad done) d f = absurd (bad_not_done ask.style ask.name.now bytes old new t done d)
+file_given ask old new _ text (lost l) d f = absurd cc
 
 -- what is printed, and what is replaced, with `Done`
 pub done_printed : (name out : List ℕ) (old new : Seen) (t : Tally) → Happens name old new (prints out (plain Done)) t → t.status ≡ Done → Prints out old new
@@ -158,8 +159,8 @@ set_by_run path value create ask old new (inr (no-input, (t, f, e))) kept is = s
 -- what a run of an action leaves as it was
 pub others_by_run : (ask : Ask) (other : List ℕ) (old new : Seen) (s : Status) → RunsAsk ask old new s → (other ≡ ask.name.now → ⊥) → new.files other ≡ old.files other
 others_by_run ask other old new s (inl h) is = h.1.1.1.files.0 other
-others_by_run ask other old new s (inr (no-input, (t, f, e))) is = others_stay (Asks ask) ask.name.now other old new t f is
+others_by_run ask other old new s (inr (no-input, (t, f, e))) is = others_stay (Asks ask) (ReportsNotUtf8 ask.style ask.name.now) ask.name.now other old new t f is
 
 pub all_by_run : (ask : Ask) (old new : Seen) (s : Status) → RunsAsk ask old new s → (s ≡ Done → ⊥) → FilesStay old new
 all_by_run ask old new s (inl h) is = h.1.1.1.files
-all_by_run ask old new s (inr (no-input, (t, f, e))) is = all_stay (Asks ask) ask.name.now old new t f (λ d. is (e ∙ d))
+all_by_run ask old new s (inr (no-input, (t, f, e))) is = all_stay (Asks ask) (ReportsNotUtf8 ask.style ask.name.now) ask.name.now old new t f (λ d. is (e ∙ d))

@@ -16,7 +16,7 @@ use Rattle.cli.specs.Asks.{Asks, Gives, IsOnDocument, delivery}
 use Rattle.cli.specs.Asks.Asks.{gives, misused, not_there, refused}
 use Rattle.cli.specs.Internal.Applied.{Applies}
 use Rattle.kdl_path.specs.Failures.{TextFails}
-use Rattle.cli.specs.Reports.{ReportsFaults}
+use Rattle.cli.specs.Reports.{ReportsError}
 use Rattle.cli.specs.declared.ask.Applied.{Applied}
 use Rattle.cli.specs.declared.ask.Applied.TheVariants.{NotFound, Text, Usage}
 use Rattle.cli.specs.declared.ask.Ask.{Ask}
@@ -46,7 +46,7 @@ put_complaint ask text why s a old new t is h g = does (misused why (subst (λ (
 
 -- the faults of a text
 pub faults_reported : (ask : Ask) (text : List ℕ) (f : ParseFailure) (error : KdlError) (old new : Seen) (t : Tally) → f ≡ Syntax error → Applies ask.action text (Err f)
-    → (TextFails text error → Does (ReportsFaults ask.style ask.name.now text) ask.name.now old new t) → Does (Asks ask text) ask.name.now old new t
+    → Does (ReportsError ask.style ask.name.now text error) ask.name.now old new t → Does (Asks ask text) ask.name.now old new t
 faults_reported ask text f error old new t is h r =
     let g : IsOnDocument ask.action × TextFails text error = subst (λ (x : ParseFailure). Applies ask.action text (Err x)) is h in
-    Does-map (ReportsFaults ask.style ask.name.now text) (Asks ask text) (λ e p. refused g.0 p) ask.name.now old new t (r g.1)
+    Does-map (ReportsError ask.style ask.name.now text error) (Asks ask text) (λ e p. refused g.0 (error, g.1, p)) ask.name.now old new t r

@@ -2,23 +2,26 @@
 use Rattle.std.proofs.Common.{◌≡◌, ◌∙◌, ◌⊎◌, ◌∷◌, [], List, Some, ap, chars, false, inl, inr, lit<, refl, subst, sym, ℕ}
 use Rattle.std.proofs.lemmas.List.Elements.{Contains-append_left, Contains-append_right}
 use Rattle.std.proofs.lemmas.Str.{chars-nil}
+use Rattle.kdl_path.specs.Failures.{TextFails}
 use Rattle.kdl_report.specs.Hunks.{IsDiff}
+use Rattle.kdl_text.specs.declared.error.KdlError.{KdlError}
 use Rattle.cli_world.proofs.Acting.{Does-map, nothing_happens}
+use Rattle.cli_world.proofs.Refuted.{does_all}
 use Rattle.cli_world.specs.Acts.{Does, Each, Effect, Happens, tally_of}
-use Rattle.cli_world.specs.Acts.Acts.{acts, unread}
+use Rattle.cli_world.specs.Acts.Acts.{acts, lost, refuses}
 use Rattle.cli_world.specs.Acts.Does.{does, memory}
 use Rattle.cli_world.specs.Acts.Each.{none, more}
 use Rattle.cli_world.specs.Acts.Effect.{prints, replaces}
 use Rattle.cli_world.specs.Acts.Happens.{printed, unprinted, reported, replaced, unreplaced}
-use Rattle.cli_world.specs.Seen.{IsUnread, Seen, shown_name}
+use Rattle.cli_world.specs.Seen.{Seen, shown_name}
 use Rattle.cli_world.specs.Tallies.{plain}
 use Rattle.cli_world.specs.declared.status.Status.{Status}
-use Rattle.cli_world.specs.declared.status.Status.TheVariants.{Done, Failed, Found, Usage}
+use Rattle.cli_world.specs.declared.status.Status.TheVariants.{Done, Found}
 use Rattle.cli_world.specs.declared.tally.Tally.{Tally}
-use Rattle.cli.proofs.AskLaws.{done_printed, done_replaced, got, nothing_appended, some_same, unread_not_done}
+use Rattle.cli.proofs.AskLaws.{bad_not_done, done_printed, done_replaced, got, nothing_appended, some_same}
 use Rattle.cli.specs.Formats.{ChangesNamed, Formats, FormatsFile, FormatsFiles, IsChange, IsDelivery, IsNoChange, ShowsLines}
 use Rattle.cli.specs.Formatted.{IsFormatted}
-use Rattle.cli.specs.Reports.{ReportsFaults}
+use Rattle.cli.specs.Reports.{ReportsError, ReportsNotUtf8}
 use Rattle.cli.specs.declared.files.Job.{Job}
 use Rattle.cli.specs.declared.files.Mode.{Mode}
 use Rattle.cli.specs.declared.files.Mode.TheVariants.{Check, Diff, Print, Replace}
@@ -61,8 +64,8 @@ formats_delivered job name text out bytes before after t f same d =
     let f' = subst (λ (o : List ℕ). IsFormatted job.settings (chars text) (chars o)) (sym same) f in
     Does-map (IsDelivery job.mode name text bytes) (Formats job name text) (λ e h. inl (bytes, f', h)) name before after t d
 
-pub formats_reported : (job : Job) (name text : List ℕ) (before after : Seen) (t : Tally) → Does (ReportsFaults job.style name text) name before after t → Does (Formats job name text) name before after t
-formats_reported job name text before after t d = Does-map (ReportsFaults job.style name text) (Formats job name text) (λ e h. inr h) name before after t d
+pub formats_reported : (job : Job) (name text : List ℕ) (error : KdlError) (before after : Seen) (t : Tally) → TextFails text error → Does (ReportsError job.style name text error) name before after t → Does (Formats job name text) name before after t
+formats_reported job name text error before after t f d = Does-map (ReportsError job.style name text error) (Formats job name text) (λ e h. inr (error, f, h)) name before after t d
 
 -- ---- the files that change
 
@@ -92,16 +95,11 @@ effect_changes job name text old new _ _ f (replaced {bytes} r) p =
     elim (r.files.others p) [ inl h ↦ inl h | inr h ↦ inr (h.0, replaces_only job name text bytes f) ]
 effect_changes job name text old new _ _ f (unreplaced r) p = inl (r.reports.files.0 p)
 
-unread_changes : (name : List ℕ) (old new : Seen) (s : Status) → IsUnread name old new s → (p : List ℕ) → new.files p ≡ old.files p
-unread_changes name old new Done u p = absurd u
-unread_changes name old new Found u p = u.3.files.0 p
-unread_changes name old new Usage u p = absurd u
-unread_changes name old new Failed u p = u.reports.files.0 p
-
 file_changes : (job : Job) (name : List ℕ) (old new : Seen) (t : Tally) → FormatsFile job name old new t → (p : List ℕ) → Changes job.mode name old new p
 file_changes job name old new _ (acts {text} has utf8 (does {e} {t} f h)) p = effect_changes job name text old new e t f h p
 file_changes job name old new _ (acts has utf8 (memory r)) p = inl (r.files.0 p)
-file_changes job name old new _ (unread {s} u) p = inl (unread_changes name old new s u p)
+file_changes job name old new t (refuses {bytes} has bad d) p = inl ((does_all (ReportsNotUtf8 job.style name bytes) name old new t d (bad_not_done job.style name bytes old new t d)).0 p)
+file_changes job name old new _ (lost l) p = inl (l.reports.files.0 p)
 
 -- each file is as before, or it is one of these, which are replaced
 each_changes : (job : Job) (names : List (List ℕ)) (old new : Seen) (ts : List Tally) → Each (FormatsFile job) names old new ts → ChangesNamed job.mode names old.files new.files
@@ -152,7 +150,8 @@ prints_something job name was known old new _ mode is never before after works (
     never (subst (λ (x : List ℕ). IsFormatted job.settings (chars x) []) same (subst (λ (x : List ℕ). IsFormatted job.settings (chars text) x) (ap chars empty ∙ chars-nil) f))
 prints_something job name was known old new _ mode is never before after works (acts {text} has utf8 (does {e} {t} (inr r) h)) done = let k = not_done name old new e _ t h r.2 done in cc
 prints_something job name was known old new _ mode is never before after works (acts has utf8 (memory r)) done = absurd (cc)
-prints_something job name was known old new _ mode is never before after works (unread {s} u) done = unread_not_done name old new s done u
+prints_something job name was known old new t mode is never before after works (refuses {bytes} has bad d) done = bad_not_done job.style name bytes old new t d done
+prints_something job name was known old new _ mode is never before after works (lost l) done = absurd (cc)
 
 -- a change that is not printed, and ends with `Done`, is in the file
 done_changes : (mode : Mode) (name was text : List ℕ) (old new : Seen) (e : Effect) (t : Tally) → (mode ≡ Print → ⊥) → old.files name ≡ Some was → new.files name ≡ Some was → IsChange mode name was text e → Happens name old new e t
@@ -173,4 +172,5 @@ changes_something job name was old new _ other before after never (acts {text} h
     never (subst (λ (x : List ℕ). IsFormatted job.settings (chars was) (chars x)) (sym same) f')
 changes_something job name was old new _ other before after never (acts {text} has utf8 (does {e} {t} (inr r) h)) done = let k = not_done name old new e _ t h r.2 done in cc
 changes_something job name was old new _ other before after never (acts has utf8 (memory r)) done = absurd (cc)
-changes_something job name was old new _ other before after never (unread {s} u) done = unread_not_done name old new s done u
+changes_something job name was old new t other before after never (refuses {bytes} has bad d) done = bad_not_done job.style name bytes old new t d done
+changes_something job name was old new _ other before after never (lost l) done = absurd (cc)

@@ -1,5 +1,6 @@
 -- The bytes of reports.
-use Rattle.std.proofs.Common.{◌≡◌, ◌∙◌, ◌∷◌, [], ◌++◌, Bool, Global, IfOk, List, Result, Ok, Err, String, ap, chars, option_map, string_bytes, subst, sym, ℕ}
+use Rattle.std.proofs.Common.{◌≡◌, ◌∙◌, ◌∷◌, [], ◌++◌, Bool, Global, IfOk, List, OnOk, Result, Ok, Err, String, ap, append_assoc, chars, codes, cond, decimal, is_ok, option_map, string_bytes, subst, sym, ℕ}
+use Rattle.std.proofs.lemmas.Bool.{ne_eqb}
 use Rattle.std.proofs.lemmas.Str.{IsUtf8-string_bytes, encodes-append, encodes-chars}
 use Rattle.std.specs.Str.{encode_utf8_all}
 use Rattle.kdl.specs.Words.{IsDocument, Nodes}
@@ -10,6 +11,7 @@ use Rattle.kdl_text.specs.Failures.{IsSyntax, TellsOnSyntax}
 use Rattle.kdl_text.specs.declared.error.KdlError.{KdlError}
 use Rattle.kdl_text.specs.declared.error.ParseFailure.{ParseFailure}
 use Rattle.kdl_text.specs.declared.error.ParseFailure.TheVariants.{Syntax}
+use Rattle.cli_world.proofs.Acting.{Does-map}
 use Rattle.cli_world.specs.Acts.{Does, Happens}
 use Rattle.cli_world.specs.Acts.Does.{does}
 use Rattle.cli_world.specs.Acts.Effect.{reports}
@@ -17,7 +19,7 @@ use Rattle.cli_world.specs.Seen.{Seen}
 use Rattle.cli_world.specs.declared.status.Status.TheVariants.{Found}
 use Rattle.cli_world.specs.declared.tally.Tally.{Tally}
 use Rattle.kdl_path.specs.Failures.{TextFails}
-use Rattle.cli.specs.Reports.{ReportsFaults, fault_report, faults_report}
+use Rattle.cli.specs.Reports.{IsNotUtf8, ReportsError, ReportsNotUtf8, fault_report, faults_report, front, rest_line}
 use Rattle.cli.specs.declared.report.Form.{Form}
 use Rattle.cli.specs.declared.report.Form.TheVariants.{Human, Short}
 use Rattle.cli.specs.declared.report.Style.{Style}
@@ -49,6 +51,23 @@ is_faulty text r f error is e refused tells =
     (subst (λ q. IsSyntax q → (x : Nodes) → IsDocument (chars text) x → ⊥) same refused tt, subst (λ q. TellsOnSyntax text q) same tells)
 
 -- the faults are reported
-pub does_report : (style : Style) (name text bytes : List ℕ) (error : KdlError) (old new : Seen) (t : Tally) → bytes ≡ faults_report style name text error.diagnostics.items → Happens name old new (reports bytes Found) t → TextFails text error
-    → Does (ReportsFaults style name text) name old new t
-does_report style name text bytes error old new t is h faulty = does (error, faulty, ap (λ (b : List ℕ). reports b Found) is) h
+pub does_report : (style : Style) (name text bytes : List ℕ) (error : KdlError) (old new : Seen) (t : Tally) → bytes ≡ faults_report style name text error.diagnostics.items → Happens name old new (reports bytes Found) t
+    → Does (ReportsError style name text error) name old new t
+does_report style name text bytes error old new t is h = does (ap (λ (b : List ℕ). reports b Found) is) h
+
+-- that bytes are not UTF-8 is reported
+pub bad_reported : (style : Style) (name bytes text : List ℕ) (error : KdlError) (old new : Seen) (t : Tally) → text ≡ front bytes → IsNotUtf8 text error → Does (ReportsError style name text error) name old new t
+    → Does (ReportsNotUtf8 style name bytes) name old new t
+bad_reported style name bytes text error old new t same bad d =
+    Does-map (ReportsError style name text error) (ReportsNotUtf8 style name bytes)
+    (λ e p. (error, subst (λ (x : List ℕ). IsNotUtf8 x error) same bad, subst (λ (x : List ℕ). ReportsError style name x error e) same p)) name old new t d
+
+-- the line on faults that are left out is appended
+pub rest_written : {A E : Type 0} (r : Result A E) (n : ℕ) (old a b new digits : List ℕ) → (n ≡ 0 → ⊥) → a ≡ old ++ codes "and " → b ≡ a ++ digits → digits ≡ decimal n
+    → new ≡ cond (is_ok r) (b ++ codes " more: `kdl check --all` shows them\n\n") b → OnOk r (new ≡ old ++ rest_line n)
+rest_written (Ok u) n old a b new digits some ea eb is e =
+    let rest = codes " more: `kdl check --all` shows them\n\n" in
+    let line : rest_line n ≡ codes "and " ++ decimal n ++ rest = ap (λ (x : Bool). cond x [] (codes "and " ++ decimal n ++ rest)) (ne_eqb n 0 some) in
+    let whole : new ≡ ((old ++ codes "and ") ++ decimal n) ++ rest = e ∙ ap (λ (t : List ℕ). t ++ rest) (eb ∙ (ap (λ (t : List ℕ). t ++ digits) ea ∙ ap (λ (t : List ℕ). (old ++ codes "and ") ++ t) is)) in
+    whole ∙ (append_assoc (old ++ codes "and ") (decimal n) rest ∙ (append_assoc old (codes "and ") (decimal n ++ rest) ∙ ap (λ (t : List ℕ). old ++ t) (sym (append_assoc (codes "and ") (decimal n) rest) ∙ sym line)))
+rest_written (Err u) n old a b new digits some ea eb is e = tt

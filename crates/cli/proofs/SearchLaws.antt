@@ -19,7 +19,7 @@ use Rattle.cli_shown.specs.Nodes.{ended, ends_line, node_shown, node_text, shown
 use Rattle.cli_shown.specs.declared.nodes.View.{View}
 use Rattle.cli_shown.specs.declared.nodes.View.TheVariants as view
 use Rattle.cli_world.specs.Acts.{Does, Each, Effect, Happens}
-use Rattle.cli_world.specs.Acts.Acts.{acts, unread}
+use Rattle.cli_world.specs.Acts.Acts.{acts, lost, refuses}
 use Rattle.cli_world.specs.Acts.Does.{does, memory}
 use Rattle.cli_world.specs.Acts.Each.{none, more}
 use Rattle.cli_world.specs.Acts.Effect.{prints}
@@ -30,7 +30,7 @@ use Rattle.cli_world.specs.Tallies.{counted, worst}
 use Rattle.cli_world.specs.declared.status.Status.{Status}
 use Rattle.cli_world.specs.declared.status.Status.TheVariants.{Done, Found, Usage, Failed}
 use Rattle.cli_world.specs.declared.tally.Tally.{Tally}
-use Rattle.cli.proofs.AskLaws.{report_not_done, unread_not_done}
+use Rattle.cli.proofs.AskLaws.{bad_not_done, report_not_done}
 use Rattle.cli.specs.Searches.{Searches, SearchesFile, SearchesFiles, Shows}
 use Rattle.cli.specs.declared.query.Search.{Search}
 
@@ -113,7 +113,8 @@ text_printed s name text old new _ (does {e = x} {t} (inl (out, count, shows, is
 
 -- the same of a file with these bytes
 file_printed : (s : Search) (name bytes : List ℕ) (old new : Seen) (t : Tally) → old.files name ≡ Some bytes → SearchesFile s name old new t → t.status ≡ Done → Printed s bytes old new t
-file_printed s name bytes old new _ known (unread {s = x} u) e = absurd (unread_not_done name old new x e u)
+file_printed s name bytes old new t known (refuses {bytes = b} has bad d) e = absurd (bad_not_done s.style name b old new t d e)
+file_printed s name bytes old new _ known (lost l) e = absurd cc
 file_printed s name bytes old new _ known (acts {text} {t} has utf8 d) e =
     subst (λ (b : List ℕ). Printed s b old new t) (sym (has bytes known)) (text_printed s name text old new t d e)
 

@@ -1,10 +1,10 @@
 -- Texts of the program itself are shown.
-use Rattle.std.proofs.Common.{◌≡◌, ◌∙◌, [], List, Some, codes, false, subst, sym, ℕ}
+use Rattle.std.proofs.Common.{◌≡◌, ◌∙◌, [], List, Some, false, subst, sym, ℕ}
 use Rattle.cli_words.proofs.OfWords.{some_page, some_script}
 use Rattle.cli_words.specs.Completions.{IsScript}
 use Rattle.cli_words.specs.Manual.{IsManual}
 use Rattle.cli_words.specs.declared.completions.Shell.{Shell}
-use Rattle.cli_world.specs.Acts.{Does, Effect, Happens}
+use Rattle.cli_world.specs.Acts.{Does, Effect, Happens, output}
 use Rattle.cli_world.specs.Acts.Does.{does, memory}
 use Rattle.cli_world.specs.Acts.Effect.{prints}
 use Rattle.cli_world.specs.Seen.{Seen}
@@ -19,9 +19,9 @@ use Rattle.cli.specs.declared.request.Request.TheVariants as request
 some_text : (IsText : List ℕ → Type 0) → (IsText [] → ⊥) → (s : Seen) (before : List ℕ) → Shows IsText s s Done → s.out.bytes ≡ Some before → s.out.failed ≡ false → ⊥
 some_text IsText some s before (t, d, e) b f = go t d (sym e)
   where
-    go : (t : Tally) → Does (λ e. (out : List ℕ) × IsText out × (e ≡ prints out (plain Done))) (codes "output") s s t → t.status ≡ Done → ⊥
+    go : (t : Tally) → Does (λ e. (out : List ℕ) × IsText out × (e ≡ prints out (plain Done))) output s s t → t.status ≡ Done → ⊥
     go _ (does {e} {t} (out, is, p) h) d =
-        let printed = done_printed (codes "output") out s s t (subst (λ (x : Effect). Happens (codes "output") s s x t) p h) d in
+        let printed = done_printed output out s s t (subst (λ (x : Effect). Happens output s s x t) p h) d in
         some (subst IsText (nothing_appended before out (some_same (sym b ∙ got out before s s printed.out b f))) is)
     go _ (memory r) d = absurd cc
 

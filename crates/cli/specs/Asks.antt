@@ -17,7 +17,7 @@ use Rattle.cli_world.specs.Tallies.{plain}
 use Rattle.cli_world.specs.declared.status.Status.TheVariants as status
 use Rattle.cli_world.specs.declared.tally.Tally.{Tally}
 use Rattle.cli.specs.Edits.{IsEachRemoved, IsEachSet, IsInserted, IsRemoved, IsSet}
-use Rattle.cli.specs.Reports.{ReportsFaults}
+use Rattle.cli.specs.Reports.{ReportsFaults, ReportsNotUtf8}
 use Rattle.cli.specs.Shown.{IsJsonShown, IsOfJson, IsShown, asked}
 use Rattle.cli.specs.declared.ask.Action.{Action}
 use Rattle.cli.specs.declared.ask.Action.TheVariants.{FromJson, Get, Insert, Json, Remove, RemoveEach, Set, SetEach}
@@ -71,4 +71,4 @@ pub data Asks (ask : Ask) (text : List ℕ) : Effect → Type 0 where
 
 -- the file is acted on so
 abbrev pub AsksFile : Ask → (old new : Seen) → Tally → Type 0
-AsksFile ask old new t = Acts (Asks ask) ask.name.now old new t
+AsksFile ask old new t = Acts (Asks ask) (ReportsNotUtf8 ask.style ask.name.now) ask.name.now old new t

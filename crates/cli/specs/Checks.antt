@@ -1,17 +1,17 @@
 -- What is done with files that are checked.
-use Rattle.std.specs.Prelude.{◌≡◌, ◌⊎◌, ◌++◌, ◌∷◌, ◌==◌, [], List, chars, codes, count_by, decimal, if◌then◌else◌, length, max, min, nat_lt, sum_by, ℕ, ◌^◌, ◌-◌}
+use Rattle.std.specs.Prelude.{◌≡◌, ◌⊎◌, ◌++◌, ◌∷◌, ◌==◌, [], List, chars, codes, count_by, decimal, if◌then◌else◌, length, min, nat_lt, ℕ, ◌^◌, ◌-◌}
 use Rattle.kdl.specs.Words.{IsDocument, Nodes}
 use Rattle.kdl_text.specs.declared.error.KdlError.{KdlError}
-use Rattle.cli_world.specs.Acts.{Acts, Does, Each, Effect}
+use Rattle.cli_world.specs.Acts.{Acts, Does, Each, Effect, output}
 use Rattle.cli_world.specs.Acts.Effect.{prints}
 use Rattle.cli_world.specs.Seen.{Seen}
 use Rattle.cli_world.specs.Statuses.{code_of}
-use Rattle.cli_world.specs.Tallies.{plain, worst}
+use Rattle.cli_world.specs.Tallies.{counted, plain, worst}
 use Rattle.cli_world.specs.declared.status.Status.{Status}
 use Rattle.cli_world.specs.declared.status.Status.TheVariants.{Done, Found}
 use Rattle.cli_world.specs.declared.tally.Tally.{Tally}
 use Rattle.kdl_path.specs.Failures.{TextFails}
-use Rattle.cli.specs.Reports.{faults_report}
+use Rattle.cli.specs.Reports.{IsNotUtf8, faults_report, front}
 use Rattle.cli.specs.declared.report.Form.{Form}
 use Rattle.cli.specs.declared.report.Form.TheVariants.{Json}
 use Rattle.cli.specs.declared.report.Style.{Style}
@@ -20,10 +20,18 @@ use Rattle.cli.specs.declared.report.Style.{Style}
 abbrev pub IsSound : List ℕ → Type 0
 IsSound text = (x : Nodes) × IsDocument (chars text) x
 
--- the faults of the text are printed, and counted
+-- the faults of an error in a text are printed, and counted
+abbrev pub PrintsError : Style → (name text : List ℕ) → KdlError → Effect → Type 0
+PrintsError style name text error e =
+    e ≡ prints (faults_report style name text error.diagnostics.items) (record { status = Found; count = length error.diagnostics.items })
+
+-- the faults of the text are printed
 abbrev pub PrintsFaults : Style → (name text : List ℕ) → Effect → Type 0
-PrintsFaults style name text e = (error : KdlError) × TextFails text error
-    × (e ≡ prints (faults_report style name text error.diagnostics.items) (record { status = Found; count = length error.diagnostics.items }))
+PrintsFaults style name text e = (error : KdlError) × TextFails text error × PrintsError style name text error e
+
+-- that the bytes are not UTF-8 is printed
+abbrev pub PrintsNotUtf8 : Style → (name bytes : List ℕ) → Effect → Type 0
+PrintsNotUtf8 style name bytes e = (error : KdlError) × IsNotUtf8 (front bytes) error × PrintsError style name (front bytes) error e
 
 -- what is done with the text of a file: nothing if it is a document, and else its faults are printed
 abbrev pub Checks : Style → (name text : List ℕ) → Effect → Type 0
@@ -31,24 +39,15 @@ Checks style name text e = (IsSound text × (e ≡ prints [] (plain Done))) ⊎ 
 
 -- a file is checked
 abbrev pub ChecksFile : Style → (name : List ℕ) → (old new : Seen) → Tally → Type 0
-ChecksFile style name old new t = Acts (Checks style name) name old new t
-
--- the number of faults of a file with that status, in which so many are counted: one that is not UTF-8 has one
-abbrev pub faults_in : Status → ℕ → ℕ
-faults_in Found n = max n 1
-faults_in _ n = 0
-
--- the number of faults of a file
-abbrev pub fault_count : Tally → ℕ
-fault_count t = faults_in t.status t.count
+ChecksFile style name old new t = Acts (Checks style name) (PrintsNotUtf8 style name) name old new t
 
 -- the number of faults of files, or the greatest that a machine can count
 abbrev pub all_faults : List Tally → ℕ
-all_faults ts = min (sum_by fault_count ts) (2 ^ 64 - 1)
+all_faults ts = min (counted ts) (2 ^ 64 - 1)
 
 -- the number of files that have a fault
 abbrev pub faulty_files : List Tally → ℕ
-faulty_files ts = count_by (λ t. nat_lt 0 (fault_count t)) ts
+faulty_files ts = count_by (λ t. nat_lt 0 t.count) ts
 
 -- the words for so many
 abbrev pub noun : ℕ → (one more : List ℕ) → List ℕ
@@ -73,5 +72,5 @@ pub record ChecksFiles (style : Style) (names : List (List ℕ)) (old new : Seen
   pub between : Seen
   pub each : Each (ChecksFile style) names old between tallies
   pub last : Tally
-  pub ends : Does (PrintsTotals style.form (all_faults tallies) (faulty_files tallies)) (codes "output") between new last
+  pub ends : Does (PrintsTotals style.form (all_faults tallies) (faulty_files tallies)) output between new last
   pub worst_of : code_of status ≡ worst (tallies ++ (last ∷ []))

@@ -1,6 +1,7 @@
 -- What becomes of files that are formatted.
 use Rattle.std.specs.Prelude.{◌≡◌, ◌⊎◌, ◌++◌, ◌∷◌, [], Contains, List, chars, ℕ}
 use Rattle.kdl_report.specs.Hunks.{IsDiff}
+use Rattle.kdl_report.specs.Shown.{shown_bytes}
 use Rattle.cli_world.specs.Acts.{Acts, Effect, InTurn}
 use Rattle.cli_world.specs.Acts.Effect.{prints, replaces}
 use Rattle.cli_world.specs.Files.{Files}
@@ -10,14 +11,14 @@ use Rattle.cli_world.specs.declared.status.Status.{Status}
 use Rattle.cli_world.specs.declared.status.Status.TheVariants.{Done, Found}
 use Rattle.cli_world.specs.declared.tally.Tally.{Tally}
 use Rattle.cli.specs.Formatted.{IsFormatted}
-use Rattle.cli.specs.Reports.{ReportsFaults}
+use Rattle.cli.specs.Reports.{ReportsFaults, ReportsNotUtf8}
 use Rattle.cli.specs.declared.files.Job.{Job}
 use Rattle.cli.specs.declared.files.Mode.{Mode}
 use Rattle.cli.specs.declared.files.Mode.TheVariants.{Print, Check, Diff, Replace}
 
 -- the name of a file, on a line
 abbrev pub name_line : List ℕ → List ℕ
-name_line name = shown_name name ++ (10 ∷ [])
+name_line name = shown_bytes (shown_name name) ++ (10 ∷ [])
 
 -- the lines that differ are printed
 abbrev pub ShowsLines : (name old new : List ℕ) → Effect → Type 0
@@ -46,7 +47,7 @@ Formats job name text e =
 
 -- a file is formatted
 abbrev pub FormatsFile : Job → List ℕ → Seen → Seen → Tally → Type 0
-FormatsFile job name old new t = Acts (Formats job name) name old new t
+FormatsFile job name old new t = Acts (Formats job name) (ReportsNotUtf8 job.style name) name old new t
 
 -- files are formatted one after another, and the status is the worst of theirs
 abbrev pub FormatsFiles : Job → List (List ℕ) → Seen → Seen → Status → Type 0

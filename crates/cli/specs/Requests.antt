@@ -1,16 +1,17 @@
 -- What a run does for a request.
 use Rattle.std.specs.Borrow.{Bor}
 use Rattle.std.specs.List.{count_by, flat_map}
-use Rattle.std.specs.Prelude.{◌≡◌, ◌⊎◌, ◌++◌, ◌∷◌, [], Bool, Err, List, None, Ok, Option, Result, Some, chars, codes, decimal, false, map, nat_lt, true, ℕ}
+use Rattle.std.specs.Prelude.{◌≡◌, ◌⊎◌, ◌++◌, ◌∷◌, [], Bool, Err, IsUtf8, List, None, Ok, Option, Result, Some, chars, codes, decimal, false, map, nat_lt, true, ℕ}
 use Rattle.std.specs.Str.{bytes_eq}
 use Rattle.kdl_report.specs.Places.{column, line_number}
+use Rattle.kdl_report.specs.Shown.{shown_bytes}
 use Rattle.kdl_text.specs.Chars.{Text}
 use Rattle.cli_words.specs.Completions.{IsScript}
 use Rattle.cli_words.specs.Manual.{IsManual}
-use Rattle.cli_world.specs.Acts.{Does}
+use Rattle.cli_world.specs.Acts.{Does, output}
 use Rattle.cli_world.specs.Acts.Effect.{prints}
 use Rattle.cli_world.specs.Files.{Files, Has}
-use Rattle.cli_world.specs.Seen.{IsUnread, Reports, Seen, complaint, problem, shown_name}
+use Rattle.cli_world.specs.Seen.{IsLost, Reports, Seen, complaint, problem, shown_name}
 use Rattle.cli_world.specs.Tallies.{plain}
 use Rattle.cli_world.specs.declared.status.Status.{Status}
 use Rattle.cli_world.specs.declared.status.Status.TheVariants.{Done, Found, Usage, Failed}
@@ -19,7 +20,7 @@ use Rattle.cli.specs.Asks.{AsksFile}
 use Rattle.cli.specs.Checks.{ChecksFiles}
 use Rattle.cli.specs.Config.{Configures, why_text}
 use Rattle.cli.specs.Formats.{FormatsFiles}
-use Rattle.cli.specs.Reports.{faults_report}
+use Rattle.cli.specs.Reports.{ReportsNotUtf8, faults_report}
 use Rattle.cli.specs.Searches.{SearchesFiles}
 use Rattle.cli.specs.Settings.{default_settings, with_given}
 use Rattle.cli.specs.declared.ask.Ask.{Ask}
@@ -88,17 +89,19 @@ misfit_line name text m =
 -- the report of why a text has no settings
 abbrev pub unfit_report : Style → (name text : List ℕ) → Unfit → List ℕ
 unfit_report style name text (Syntax e) = faults_report style name text e.diagnostics.items
-unfit_report style name text (Misfits ms) = flat_map (misfit_line (shown_name name) (chars text)) ms.items
+unfit_report style name text (Misfits ms) = flat_map (misfit_line (shown_bytes (shown_name name)) (chars text)) ms.items
 unfit_report style name text Memory = []
 
--- the status if a file has no text
-abbrev pub unread_status : Status → Status
-unread_status Found = Usage
-unread_status s = s
+-- the status if a text of settings has a fault
+abbrev pub settings_status : Status → Status
+settings_status Found = Usage
+settings_status s = s
 
--- a file gives no settings, with the status for that: it has no text, or one that gives none, or memory runs out; each is reported
+-- a file gives no settings, with the status for that: it is not read, is not UTF-8, or has a text that gives none, or memory runs out; each is reported
 pub data IsUnsettled (style : Style) (name : List ℕ) (old new : Seen) : Status → Type 0 where
-  unread : (s : Status) {t : Status} → IsUnread name old new s → t ≡ unread_status s → IsUnsettled style name old new t
+  lost : IsLost name old new → IsUnsettled style name old new Failed
+  not_utf8 : {bytes : List ℕ} {t : Tally} {s : Status} → Has old.files name bytes → (IsUtf8 bytes → ⊥) → Does (ReportsNotUtf8 style name bytes) name old new t → s ≡ settings_status t.status
+      → IsUnsettled style name old new s
   unfit : {text : List ℕ} (why : Unfit) → Has old.files name text → Configures text (Err why) → (why ≡ Memory → ⊥)
       → Reports (unfit_report style name text why) old new → IsUnsettled style name old new Usage
   memory : Reports (problem name (codes "out of memory")) old new → IsUnsettled style name old new Failed
@@ -137,7 +140,7 @@ RunsAsk a old new s = (AsksInput a × IsUnusable old new s) ⊎ ((AsksInput a �
 
 -- such a text of the program itself is printed
 abbrev pub Shows : (IsText : List ℕ → Type 0) → Seen → Seen → Status → Type 0
-Shows IsText old new s = (t : Tally) × Does (λ e. (out : List ℕ) × IsText out × (e ≡ prints out (plain Done))) (codes "output") old new t × (s ≡ t.status)
+Shows IsText old new s = (t : Tally) × Does (λ e. (out : List ℕ) × IsText out × (e ≡ prints out (plain Done))) output old new t × (s ≡ t.status)
 
 -- what is asked for is done, from the files and the standard input before, to the files, the output and the errors after, and the status
 abbrev pub Runs : Request → Seen → Seen → Status → Type 0

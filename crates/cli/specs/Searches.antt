@@ -20,7 +20,7 @@ use Rattle.cli_world.specs.Tallies.{counted, worst}
 use Rattle.cli_world.specs.declared.status.Status.{Status}
 use Rattle.cli_world.specs.declared.status.Status.TheVariants.{Done}
 use Rattle.cli_world.specs.declared.tally.Tally.{Tally}
-use Rattle.cli.specs.Reports.{ReportsFaults}
+use Rattle.cli.specs.Reports.{ReportsFaults, ReportsNotUtf8}
 use Rattle.cli.specs.declared.query.Search.{Search}
 
 -- the error of a query, as a fault of its text
@@ -58,7 +58,7 @@ Searches s name text e = PrintsNodes s text e ⊎ ReportsFaults s.style name tex
 
 -- a file is searched
 abbrev pub SearchesFile : Search → List ℕ → Seen → Seen → Tally → Type 0
-SearchesFile s name old new t = Acts (Searches s name) name old new t
+SearchesFile s name old new t = Acts (Searches s name) (ReportsNotUtf8 s.style name) name old new t
 
 -- the files are searched in turn; the status is the worst of theirs, and not 0 if no node is selected in any of them
 abbrev pub SearchesFiles : Search → List (List ℕ) → Seen → Seen → Status → Type 0

@@ -8,12 +8,12 @@ ghost use Rattle.cli_world.specs.Acts.{Does, Happens};
 ghost use Rattle.kdl.specs.Words.{document_says};
 ghost use Rattle.std.specs.Prelude.{◌≡◌, IfOk, Ok, string_bytes};
 
-use crate::report::{Style, report_faults};
+use crate::report::{Style, report_faults, report_not_utf8};
 use cli_shown::{lines_of, push_value};
 use cli_world::effects;
 use cli_world::status::Status;
 use cli_world::tally::Tally;
-use cli_world::world::World;
+use cli_world::world::{Unread, World};
 use kdl::{KdlDocument, ParseFailure};
 use kdl_json::{JsonFailure, from_json, to_json};
 pub use kdl_path::Path;
@@ -347,7 +347,8 @@ pub fn ask_file<W: World>(alloc: Global, world: &mut W, ask: &Ask<'_>) -> Tally
 {
     match world.text(alloc, ask.name) {
         Ok(text) => ask_text(alloc, world, ask, &text),
-        Err(status) => Tally::plain(status),
+        Err(Unread::NotUtf8(bytes)) => report_not_utf8(alloc, world, ask.name, &bytes, ask.style),
+        Err(Unread::Lost) => Tally::plain(Status::Failed),
     }
 }
 

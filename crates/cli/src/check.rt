@@ -1,15 +1,14 @@
 //! Files that are checked.
 
-ghost use Rattle.cli.specs.Checks.{Checks, ChecksFile, ChecksFiles, PrintsFaults, PrintsTotals, fault_count, noun, totals_line};
-ghost use Rattle.kdl_path.specs.Failures.{TextFails};
+ghost use Rattle.cli.specs.Checks.{Checks, ChecksFile, ChecksFiles, PrintsError, PrintsNotUtf8, PrintsTotals, noun, totals_line};
 ghost use Rattle.cli_world.specs.Acts.{Does};
 ghost use Rattle.std.specs.Prelude.{◌≡◌, ◌+◌, ◌<◌, IfOk, map, min, nat_lt, if◌then◌else◌, string_bytes};
 
-use crate::report::{Form, Style, faults};
+use crate::report::{Form, Style, faults, front, not_utf8};
 use cli_world::effects;
 use cli_world::status::Status;
 use cli_world::tally::Tally;
-use cli_world::world::World;
+use cli_world::world::{OUTPUT, Unread, World};
 use itoa::Buffer;
 use kdl::{KdlDocument, KdlError, ParseFailure};
 use std::alloc::{AllocError, Global};
@@ -25,27 +24,16 @@ struct Totals {
 
 impl Totals {
     /// Counts the faults of one more file.
-    fn count(&mut self, tally: Tally)
+    fn count(&mut self, faults: usize)
         requires { self.old.files < usize.MAX }
-        ensures faults { self.new.faults ≡ min (self.old.faults + fault_count tally) usize.MAX }
+        ensures faults { self.new.faults ≡ min (self.old.faults + faults) usize.MAX }
         ensures files { self.new.files
-            ≡ (if nat_lt 0 (fault_count tally) then self.old.files + 1 else self.old.files) }
+            ≡ (if nat_lt 0 faults then self.old.files + 1 else self.old.files) }
     {
-        let faults = fault_count(tally);
         if faults > 0 {
             self.faults = self.faults.saturating_add(faults);
             self.files += 1;
         }
-    }
-}
-
-/// Returns the number of faults of a file. A file that is not UTF-8 has one.
-fn fault_count(tally: Tally) -> usize
-    ensures { result ≡ fault_count tally }
-{
-    match tally.status {
-        Status::Found => tally.count.max(1),
-        _ => 0,
     }
 }
 
@@ -61,10 +49,10 @@ pub fn check_files<W: World>(alloc: Global, world: &mut W, style: Style, names: 
     };
     for name in names {
         let tally = check_file(alloc, world, style, name);
-        totals.count(tally);
+        totals.count(tally.count);
         status = status.worst(tally.status);
     }
-    let end = print_totals(alloc, world, "output", style.form, totals);
+    let end = print_totals(alloc, world, OUTPUT, style.form, totals);
     status.worst(end.status)
 }
 
@@ -74,7 +62,8 @@ pub fn check_file<W: World>(alloc: Global, world: &mut W, style: Style, name: &s
 {
     match world.text(alloc, name) {
         Ok(text) => check_text(alloc, world, style, name, &text),
-        Err(status) => Tally::plain(status),
+        Err(Unread::NotUtf8(bytes)) => print_not_utf8(alloc, world, style, name, &bytes),
+        Err(Unread::Lost) => Tally::plain(Status::Failed),
     }
 }
 
@@ -89,7 +78,24 @@ fn check_text<W: World>(alloc: Global, world: &mut W, style: Style, name: &str, 
     }
 }
 
-/// Writes these faults of the text of a file.
+/// Writes that the bytes of a file are not UTF-8.
+fn print_not_utf8<W: World>(
+    alloc: Global,
+    world: &mut W,
+    style: Style,
+    name: &str,
+    bytes: &[u8],
+) -> Tally
+    ensures { Does (PrintsNotUtf8 style name.now bytes.now) name.now (W.seen world.old) (W.seen world.new) result }
+{
+    let text = front(bytes);
+    match not_utf8(alloc, text) {
+        Ok(error) => print_faults(alloc, world, style, name, text, &error),
+        Err(AllocError) => effects::report_memory(world, name),
+    }
+}
+
+/// Writes the faults of an error in the text of a file.
 fn print_faults<W: World>(
     alloc: Global,
     world: &mut W,
@@ -98,8 +104,7 @@ fn print_faults<W: World>(
     text: &str,
     error: &KdlError,
 ) -> Tally
-    ensures { TextFails text.now error.now
-        → Does (PrintsFaults style name.now text.now) name.now (W.seen world.old) (W.seen world.new) result }
+    ensures { Does (PrintsError style name.now text.now error.now) name.now (W.seen world.old) (W.seen world.new) result }
 {
     match faults(alloc, name, text, error, style) {
         Ok(report) => {

@@ -4,18 +4,18 @@ ghost use Rattle.cli.specs.Formats.{Formats, FormatsFile, FormatsFiles, IsChange
 ghost use Rattle.cli_world.specs.Acts.{Does};
 ghost use Rattle.cli_world.specs.Acts.Effect.{prints};
 ghost use Rattle.cli_world.specs.Tallies.{plain};
-ghost use Rattle.std.specs.Prelude.{◌≡◌, map};
+ghost use Rattle.std.specs.Prelude.{◌≡◌, IfOk, map, string_bytes};
 
 use crate::disposal::Disposal;
 use crate::fmt::formatted;
-use crate::report::{Style, report_faults};
+use crate::report::{Style, report_faults, report_not_utf8};
 use crate::settings::Settings;
 use cli_world::effects;
 use cli_world::status::Status;
 use cli_world::tally::Tally;
-use cli_world::world::{World, shown_name};
+use cli_world::world::{Unread, World, shown_name};
 use kdl::ParseFailure;
-use kdl_report::unified;
+use kdl_report::{shown_text, unified};
 use std::alloc::{AllocError, Global};
 
 /// What becomes of the formatted text of a file.
@@ -64,7 +64,8 @@ pub fn format_file<W: World>(
 {
     match world.text(alloc, name) {
         Ok(text) => format_text(alloc, world, job, name, &text, disposal),
-        Err(status) => Tally::plain(status),
+        Err(Unread::NotUtf8(bytes)) => report_not_utf8(alloc, world, name, &bytes, job.style),
+        Err(Unread::Lost) => Tally::plain(Status::Failed),
     }
 }
 
@@ -140,10 +141,19 @@ fn show_name<W: World>(alloc: Global, world: &mut W, name: &str) -> Tally
     ensures { Does (λ e. e ≡ prints (name_line name.now) (plain Status.Found)) name.now
         (W.seen world.old) (W.seen world.new) result }
 {
-    match format!(in alloc; "{}\n", shown_name(name)) {
+    match name_line(alloc, name) {
         Ok(line) => effects::print(alloc, world, name, &line, Tally::plain(Status::Found)),
         Err(AllocError) => effects::report_memory(world, name),
     }
+}
+
+/// Returns the name of a file, on a line.
+fn name_line(alloc: Global, name: &str) -> Result<String, AllocError>
+    ensures { IfOk result (λ line. string_bytes line ≡ name_line name.now) }
+{
+    let mut line = shown_text(alloc, shown_name(name))?;
+    line.push('\n')?;
+    Ok(line)
 }
 
 /// Prints the lines that differ between the texts. Returns `Found`.

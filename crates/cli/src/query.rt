@@ -7,13 +7,13 @@ ghost use Rattle.kdl.specs.Words.{IsDocument, IsSyntax, Nodes, TellsOnSyntax};
 ghost use Rattle.std.specs.Prelude.{◌≡◌, if◌then◌else◌, IfOk, chars, map, option_map, string_bytes};
 
 use crate::disposal::Disposal;
-use crate::report::{Style, report_faults};
+use crate::report::{Style, report_faults, report_not_utf8};
 pub use cli_shown::View;
 use cli_shown::shown;
 use cli_world::effects;
 use cli_world::status::Status;
 use cli_world::tally::Tally;
-use cli_world::world::World;
+use cli_world::world::{Unread, World};
 use kdl::{KdlDiagnostic, KdlDocument, ParseFailure, Severity};
 pub use kdl_query::Query;
 use kdl_query::{QueryError, QueryFailure};
@@ -109,7 +109,8 @@ pub fn search_file<W: World>(
 {
     match world.text(alloc, name) {
         Ok(text) => search_text(alloc, world, search, name, &text, disposal),
-        Err(status) => Tally::plain(status),
+        Err(Unread::NotUtf8(bytes)) => report_not_utf8(alloc, world, name, &bytes, search.style),
+        Err(Unread::Lost) => Tally::plain(Status::Failed),
     }
 }
 

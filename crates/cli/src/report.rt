@@ -1,7 +1,6 @@
 //! How faults are reported.
 
-ghost use Rattle.kdl_path.specs.Failures.{TextFails};
-ghost use Rattle.cli.specs.Reports.{ReportsFaults, fault_report, fault_reports, faults_report, reported, rest_line};
+ghost use Rattle.cli.specs.Reports.{IsNotUtf8, ReportsError, ReportsNotUtf8, fault_report, fault_reports, faults_report, front, reported, rest_line};
 ghost use Rattle.cli_world.specs.Acts.{Does};
 ghost use Rattle.std.specs.Prelude.{◌≡◌, ◌++◌, ◌≤◌, IfOk, List, OnOk, chars, string_bytes, ℕ};
 
@@ -10,9 +9,10 @@ use cli_world::status::Status;
 use cli_world::tally::Tally;
 use cli_world::world::{World, shown_name};
 use itoa::Buffer;
-use kdl::{KdlDiagnostic, KdlError};
+use kdl::{KdlDiagnostic, KdlError, Severity, SourceSpan};
 use kdl_report::{Lines, json, render, short};
 use std::alloc::{AllocError, Global};
+use std::rc::RcStr;
 
 /// The form in which faults are reported.
 #[derive(Clone, Copy)]
@@ -108,7 +108,7 @@ fn push_rest(out: &mut String, count: usize) -> Result<(), AllocError>
     let mut buffer = Buffer::new();
     out.push_str("and ")?;
     out.push_str(buffer.format(count))?;
-    out.push_str(" more\n\n")
+    out.push_str(" more: `kdl check --all` shows them\n\n")
 }
 
 /// Returns the report of a fault in a text with these lines.
@@ -145,7 +145,7 @@ fn picture(
     Ok(out)
 }
 
-/// Reports the faults of a text. Returns `Found`.
+/// Reports the faults of an error in a text. Returns `Found`.
 ///
 /// If an allocation fails, reports that, and returns `Failed`.
 pub fn report_faults<W: World>(
@@ -156,11 +156,61 @@ pub fn report_faults<W: World>(
     error: &KdlError,
     style: Style,
 ) -> Tally
-    ensures { TextFails text.now error.now
-        → Does (ReportsFaults style name.now text.now) name.now (W.seen world.old) (W.seen world.new) result }
+    ensures { Does (ReportsError style name.now text.now error.now) name.now (W.seen world.old) (W.seen world.new) result }
 {
     match faults(alloc, name, text, error, style) {
         Ok(report) => effects::report(world, name, &report, Status::Found),
         Err(AllocError) => effects::report_memory(world, name),
     }
+}
+
+/// Reports that the bytes of a file are not UTF-8. Returns `Found`.
+///
+/// If an allocation fails, reports that, and returns `Failed`.
+pub fn report_not_utf8<W: World>(
+    alloc: Global,
+    world: &mut W,
+    name: &str,
+    bytes: &[u8],
+    style: Style,
+) -> Tally
+    ensures { Does (ReportsNotUtf8 style name.now bytes.now) name.now (W.seen world.old) (W.seen world.new) result }
+{
+    let text = front(bytes);
+    match not_utf8(alloc, text) {
+        Ok(error) => report_faults(alloc, world, name, text, &error, style),
+        Err(AllocError) => effects::report_memory(world, name),
+    }
+}
+
+/// Returns the text at the front of bytes, up to the first byte that is not UTF-8.
+pub fn front(bytes: &[u8]) -> &str
+    ensures { result.now ≡ front bytes.now }
+{
+    match bytes.utf8_chunks().next() {
+        Some(chunk) => chunk.valid(),
+        None => "",
+    }
+}
+
+/// Returns the error of bytes that are not UTF-8 after this text.
+pub fn not_utf8(alloc: Global, text: &str) -> Result<KdlError, AllocError>
+    ensures { IfOk result (IsNotUtf8 text.now) }
+{
+    let input = RcStr::from_str(alloc, text)?;
+    let fault = KdlDiagnostic {
+        input: input.clone()?,
+        span: SourceSpan {
+            offset: text.len(),
+            len: 1,
+        },
+        message: Some(String::from_str(alloc, "Input is not UTF-8")?),
+        label: None,
+        help: None,
+        severity: Severity::Error,
+    };
+    Ok(KdlError {
+        input,
+        diagnostics: vec![in alloc; fault]?,
+    })
 }

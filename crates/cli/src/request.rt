@@ -2,31 +2,32 @@
 
 ghost use Rattle.cli.specs.Config.{Configures};
 ghost use Rattle.cli.specs.Formats.{FormatsFiles};
-ghost use Rattle.cli.specs.Requests.{AsksInput, GivesSettings, IsUnsettled, IsUnusable, Runs, RunsAsk, RunsCheck, RunsFormat, RunsSearch, Settles, Shows, has_input_twice, job_of, misfit_line, names_of, or_input, replaces_input, times_input, unfit_report, unread_status};
+ghost use Rattle.cli.specs.Requests.{AsksInput, GivesSettings, IsUnsettled, IsUnusable, Runs, RunsAsk, RunsCheck, RunsFormat, RunsSearch, Settles, Shows, has_input_twice, job_of, misfit_line, names_of, or_input, replaces_input, times_input, settings_status, unfit_report};
 ghost use Rattle.cli_words.specs.Completions.{IsScript};
 ghost use Rattle.cli_words.specs.Manual.{IsManual};
-ghost use Rattle.cli_world.specs.Acts.{Happens};
+ghost use Rattle.cli_world.specs.Acts.{Happens, output};
 ghost use Rattle.cli_world.specs.Acts.Effect.{prints};
 ghost use Rattle.cli_world.specs.Files.{Has};
 ghost use Rattle.cli_world.specs.Seen.{shown_name};
 ghost use Rattle.cli_world.specs.Tallies.{plain};
-ghost use Rattle.std.specs.Prelude.{◌≡◌, ◌↔◌, ◌++◌, Err, IfErr, IfOk, IsTrue, Ok, OnOk, chars, codes, flat_map, string_bytes};
+ghost use Rattle.kdl_report.specs.Shown.{shown_bytes};
+ghost use Rattle.std.specs.Prelude.{◌≡◌, ◌↔◌, ◌++◌, Err, IfErr, IfOk, IsTrue, Ok, OnOk, chars, flat_map, string_bytes};
 
 use crate::ask::{Ask, ask_file};
 use crate::check::check_files;
 use crate::config::{Misfit, Unfit, given};
 use crate::files::{Job, Mode, format_files};
 use crate::query::{Search, search_files};
-use crate::report::{Style, faults};
+use crate::report::{Style, faults, report_not_utf8};
 use crate::settings::{Given, Settings};
 use cli_words::completions::{Shell, completions};
 use cli_words::manual::manual;
 use cli_world::effects;
 use cli_world::status::Status;
 use cli_world::tally::Tally;
-use cli_world::world::{World, shown_name};
+use cli_world::world::{OUTPUT, Unread, World, shown_name};
 use itoa::Buffer;
-use kdl_report::Lines;
+use kdl_report::{Lines, shown_text};
 use std::alloc::{AllocError, Global};
 
 /// The name of the standard input.
@@ -203,7 +204,7 @@ fn show_completions<W: World>(alloc: Global, world: &mut W, shell: Shell) -> Sta
 {
     match completions(alloc, shell) {
         Ok(script) => show(alloc, world, &script),
-        Err(AllocError) => effects::report_memory(world, "output").status,
+        Err(AllocError) => effects::report_memory(world, OUTPUT).status,
     }
 }
 
@@ -213,16 +214,16 @@ fn show_manual<W: World>(alloc: Global, world: &mut W) -> Status
 {
     match manual(alloc) {
         Ok(page) => show(alloc, world, &page),
-        Err(AllocError) => effects::report_memory(world, "output").status,
+        Err(AllocError) => effects::report_memory(world, OUTPUT).status,
     }
 }
 
 /// Writes a text of the program itself to the output.
 fn show<W: World>(alloc: Global, world: &mut W, text: &str) -> Status
-    ensures { (t : Tally) × Happens (codes "output") (W.seen world.old) (W.seen world.new)
+    ensures { (t : Tally) × Happens output (W.seen world.old) (W.seen world.new)
         (prints text.now (plain Status.Done)) t × (result ≡ t.status) }
 {
-    effects::print(alloc, world, "output", text, Tally::plain(Status::Done)).status
+    effects::print(alloc, world, OUTPUT, text, Tally::plain(Status::Done)).status
 }
 
 /// Returns the settings that are given on the command line, by the file, or else by default. If the file gives none,
@@ -256,13 +257,17 @@ fn given_by<W: World>(
 {
     match world.text(alloc, name) {
         Ok(text) => given_in(alloc, world, name, &text, style),
-        Err(status) => Err(unread_status(status)),
+        Err(Unread::NotUtf8(bytes)) => {
+            let tally = report_not_utf8(alloc, world, name, &bytes, style);
+            Err(settings_status(tally.status))
+        }
+        Err(Unread::Lost) => Err(Status::Failed),
     }
 }
 
-/// Returns the status if a file has no text, and so no settings.
-fn unread_status(status: Status) -> Status
-    ensures { result ≡ unread_status status }
+/// Returns the status if a text of settings has a fault.
+fn settings_status(status: Status) -> Status
+    ensures { result ≡ settings_status status }
 {
     match status {
         Status::Found => Status::Usage,
@@ -336,11 +341,16 @@ fn misfit_lines(
     misfits: &[Misfit],
 ) -> Result<String, AllocError>
     ensures { IfOk result (λ out. string_bytes out
-        ≡ flat_map (misfit_line (shown_name name.now) (chars text.now)) misfits.now) }
+        ≡ flat_map (misfit_line (shown_bytes (shown_name name.now)) (chars text.now)) misfits.now) }
 {
     let mut out = String::new(alloc);
     let lines = Lines::new(alloc, text)?;
-    push_misfits(&mut out, shown_name(name), &lines, misfits)?;
+    push_misfits(
+        &mut out,
+        &shown_text(alloc, shown_name(name))?,
+        &lines,
+        misfits,
+    )?;
     Ok(out)
 }
 

@@ -1,10 +1,10 @@
 -- What is done with a file, and with files in turn.
-use Rattle.std.proofs.Common.{◌≡◌, ◌∙◌, ℕ, ◌+◌, max, List, [], ◌∷◌, ◌++◌, Global, Option, Some, None, String, string_bytes, ap, arith, codes, inl, refl, subst, sym}
+use Rattle.std.proofs.Common.{◌≡◌, ◌∙◌, ℕ, ◌+◌, max, List, [], ◌∷◌, ◌++◌, Global, Option, Some, None, String, Vec, string_bytes, ap, arith, codes, inl, refl, subst, sym}
 use Rattle.std.proofs.lemmas.List.{append-nil}
 use Rattle.std.proofs.lemmas.Str.{IsUtf8-string_bytes}
 use Rattle.std.specs.Io.KnownBytes.{Appends}
 use Rattle.cli_world.specs.Acts.{Acts, Does, Each, Effect, Happens, InTurn, IsUnprinted, Prints, Replaces}
-use Rattle.cli_world.specs.Acts.Acts.{acts, unread}
+use Rattle.cli_world.specs.Acts.Acts.{acts, lost, refuses}
 use Rattle.cli_world.specs.Acts.Does.{does, memory}
 use Rattle.cli_world.specs.Acts.Each.{none, more}
 use Rattle.cli_world.specs.Acts.Effect.{prints, reports, replaces}
@@ -16,12 +16,14 @@ use Rattle.cli_world.specs.Tallies.{counted, plain, worst}
 use Rattle.cli_world.specs.declared.status.Status.{Status}
 use Rattle.cli_world.specs.declared.status.Status.TheVariants.{Done, Failed}
 use Rattle.cli_world.specs.declared.tally.Tally.{Tally}
+use Rattle.cli_world.specs.declared.world.Unread.{Unread}
+use Rattle.cli_world.specs.declared.world.Unread.TheVariants.{Lost, NotUtf8}
 
 -- a text is printed
 pub prints_happens : (name bytes : List ℕ) (old new : Seen) (t r : Tally) → Prints bytes old new → r ≡ t → Happens name old new (prints bytes t) r
 prints_happens name bytes old new t r p e = subst (λ (x : Tally). Happens name old new (prints bytes t) x) (sym e) (printed p)
 
-pub unprinted_happens : (name bytes : List ℕ) (old new : Seen) (t r : Tally) (s : Status) → s ≡ Failed → IsUnprinted name bytes old new → r ≡ plain s → Happens name old new (prints bytes t) r
+pub unprinted_happens : (name bytes : List ℕ) (old new : Seen) (t r : Tally) (s : Status) → s ≡ Failed → IsUnprinted bytes old new → r ≡ plain s → Happens name old new (prints bytes t) r
 unprinted_happens name bytes old new t r s is p e = subst (λ (x : Tally). Happens name old new (prints bytes t) x) (sym (e ∙ ap plain is)) (unprinted p)
 
 -- a file is replaced
@@ -49,18 +51,25 @@ Does-map P Q f name old new _ (does {e} {t} p h) = does (f e p) h
 Does-map P Q f name old new _ (memory r) = memory r
 
 -- a file has a text, and what is to be done with it is done
-pub acts_on : (act : List ℕ → Effect → Type 0) (name : List ℕ) (old mid new : Seen) (s : String Global) (text : List ℕ) (t : Tally) → Has old.files name (string_bytes s)
-    → mid ≡ old → text ≡ string_bytes s → Does (act text) name mid new t → Acts act name old new t
-acts_on act name old mid new s text t has same is d =
+pub acts_on : (act not_utf8 : List ℕ → Effect → Type 0) (name : List ℕ) (old mid new : Seen) (s : String Global) (text : List ℕ) (t : Tally) → Has old.files name (string_bytes s)
+    → mid ≡ old → text ≡ string_bytes s → Does (act text) name mid new t → Acts act not_utf8 name old new t
+acts_on act not_utf8 name old mid new s text t has same is d =
     let d' = subst (λ (x : Seen). Does (act text) name x new t) same d in
     acts has (IsUtf8-string_bytes s) (subst (λ (x : List ℕ). Does (act x) name old new t) is d')
 
--- a file has no text
-pub unread_is : (act : List ℕ → Effect → Type 0) (name : List ℕ) (old new : Seen) (s : Status) (t : Tally) → IsUnread name old new s → t ≡ plain s → Acts act name old new t
-unread_is act name old new s t u e = subst (λ (x : Tally). Acts act name old new x) (sym e) (unread u)
+-- the bytes of a file are not UTF-8, and what is to be done then is done
+pub refuses_bytes : (act not_utf8 : List ℕ → Effect → Type 0) (name : List ℕ) (old mid new : Seen) (u : Unread) (v : Vec ℕ Global) (bytes : List ℕ) (t : Tally)
+    → u ≡ NotUtf8 v → IsUnread name old mid u → bytes ≡ v.items → Does (not_utf8 bytes) name mid new t → Acts act not_utf8 name old new t
+refuses_bytes act not_utf8 name old mid new u v bytes t is unread same d =
+    let bad = subst (IsUnread name old mid) is unread in
+    refuses bad.1 bad.2 (subst (λ (b : List ℕ). Does (not_utf8 b) name old new t) same (subst (λ (x : Seen). Does (not_utf8 bytes) name x new t) bad.0 d))
+
+-- a file was not read
+pub lost_is : (act not_utf8 : List ℕ → Effect → Type 0) (name : List ℕ) (old new : Seen) (u : Unread) (t : Tally) → u ≡ Lost → IsUnread name old new u → t ≡ plain Failed → Acts act not_utf8 name old new t
+lost_is act not_utf8 name old new u t is unread e = subst (λ (x : Tally). Acts act not_utf8 name old new x) (sym e) (lost (subst (IsUnread name old new) is unread))
 
 -- nothing is appended
-appends_nothing : (o : Option (List ℕ)) → Appends o o []
+pub appends_nothing : (o : Option (List ℕ)) → Appends o o []
 appends_nothing None = tt
 appends_nothing (Some xs) = sym (append-nil xs)
 

@@ -2,14 +2,14 @@
 use Rattle.std.proofs.Common.{◌≡◌, ◌∙◌, ℕ, ◌<◌, List, Some, arith, false, inl, inr, length, refl, sym}
 use Rattle.watched.proofs.Refuted.{not_given_or_cut}
 use Rattle.watched.specs.Streams.{Gets, Stream}
-use Rattle.cli_world.specs.Acts.{Acts, Effect, Happens, tally_of}
-use Rattle.cli_world.specs.Acts.Acts.{acts, unread}
+use Rattle.cli_world.specs.Acts.{Acts, Does, Effect, Happens, tally_of}
+use Rattle.cli_world.specs.Acts.Acts.{acts, lost, refuses}
 use Rattle.cli_world.specs.Acts.Does.{does, memory}
 use Rattle.cli_world.specs.Acts.Effect.{prints, replaces, reports}
 use Rattle.cli_world.specs.Acts.Happens.{printed, unprinted, reported, replaced, unreplaced}
-use Rattle.cli_world.specs.Seen.{FilesStay, IsUnread, Seen, problem}
+use Rattle.cli_world.specs.Seen.{FilesStay, Seen, problem}
 use Rattle.cli_world.specs.declared.status.Status.{Status}
-use Rattle.cli_world.specs.declared.status.Status.TheVariants.{Done, Found, Usage, Failed}
+use Rattle.cli_world.specs.declared.status.Status.TheVariants.{Done}
 use Rattle.cli_world.specs.declared.tally.Tally.{Tally}
 
 -- a stream that holds what it held was not given bytes
@@ -42,13 +42,6 @@ own_tally name _ old new _ whole safe (reported r) = refl
 own_tally name _ old new _ whole safe (replaced r) = refl
 own_tally name _ old new _ whole safe (unreplaced l) = let h = l.may_fail in absurd cc
 
--- a file that is not read leaves all files as they are
-unread_stay : (name : List ℕ) (old new : Seen) (s : Status) → IsUnread name old new s → FilesStay old new
-unread_stay name old new Done u = absurd u
-unread_stay name old new Found u = u.3.files
-unread_stay name old new Usage u = absurd u
-unread_stay name old new Failed u = u.reports.files
-
 -- an effect changes no other file
 pub happens_others : (name other : List ℕ) (e : Effect) (old new : Seen) (t : Tally) → Happens name old new e t → (other ≡ name → ⊥) → new.files other ≡ old.files other
 happens_others name other _ old new _ (printed p) is = p.files.0 other
@@ -66,12 +59,20 @@ happens_all name _ old new _ (replaced r) is = absurd (is refl)
 happens_all name _ old new _ (unreplaced l) is = l.reports.files
 
 -- the same of what is done with a file
-pub others_stay : (act : List ℕ → Effect → Type 0) (name other : List ℕ) (old new : Seen) (t : Tally) → Acts act name old new t → (other ≡ name → ⊥) → new.files other ≡ old.files other
-others_stay act name other old new _ (acts has utf8 (does p h)) is = happens_others name other _ old new _ h is
-others_stay act name other old new _ (acts has utf8 (memory r)) is = r.files.0 other
-others_stay act name other old new _ (unread {s} u) is = (unread_stay name old new s u).0 other
+pub does_others : (P : Effect → Type 0) (name other : List ℕ) (old new : Seen) (t : Tally) → Does P name old new t → (other ≡ name → ⊥) → new.files other ≡ old.files other
+does_others P name other old new _ (does p h) is = happens_others name other _ old new _ h is
+does_others P name other old new _ (memory r) is = r.files.0 other
 
-pub all_stay : (act : List ℕ → Effect → Type 0) (name : List ℕ) (old new : Seen) (t : Tally) → Acts act name old new t → (t.status ≡ Done → ⊥) → FilesStay old new
-all_stay act name old new _ (acts has utf8 (does p h)) is = happens_all name _ old new _ h is
-all_stay act name old new _ (acts has utf8 (memory r)) is = r.files
-all_stay act name old new _ (unread {s} u) is = unread_stay name old new s u
+pub does_all : (P : Effect → Type 0) (name : List ℕ) (old new : Seen) (t : Tally) → Does P name old new t → (t.status ≡ Done → ⊥) → FilesStay old new
+does_all P name old new _ (does p h) is = happens_all name _ old new _ h is
+does_all P name old new _ (memory r) is = r.files
+
+pub others_stay : (act not_utf8 : List ℕ → Effect → Type 0) (name other : List ℕ) (old new : Seen) (t : Tally) → Acts act not_utf8 name old new t → (other ≡ name → ⊥) → new.files other ≡ old.files other
+others_stay act not_utf8 name other old new t (acts {text} has utf8 d) is = does_others (act text) name other old new t d is
+others_stay act not_utf8 name other old new t (refuses {bytes} has utf8 d) is = does_others (not_utf8 bytes) name other old new t d is
+others_stay act not_utf8 name other old new _ (lost l) is = l.reports.files.0 other
+
+pub all_stay : (act not_utf8 : List ℕ → Effect → Type 0) (name : List ℕ) (old new : Seen) (t : Tally) → Acts act not_utf8 name old new t → (t.status ≡ Done → ⊥) → FilesStay old new
+all_stay act not_utf8 name old new t (acts {text} has utf8 d) is = does_all (act text) name old new t d is
+all_stay act not_utf8 name old new t (refuses {bytes} has utf8 d) is = does_all (not_utf8 bytes) name old new t d is
+all_stay act not_utf8 name old new _ (lost l) is = l.reports.files

@@ -2,7 +2,7 @@
 use Rattle.std.specs.Prelude.{◌≡◌, ◌++◌, ◌∷◌, [], IsUtf8, List, codes, ℕ}
 use Rattle.watched.specs.Streams.{Gets, IsCut}
 use Rattle.cli_world.specs.Files.{Has, Replaced}
-use Rattle.cli_world.specs.Seen.{FilesStay, IsLost, IsUnread, Reports, Seen, problem}
+use Rattle.cli_world.specs.Seen.{FilesStay, IsLost, Reports, Seen, problem}
 use Rattle.cli_world.specs.Statuses.{code_of}
 use Rattle.cli_world.specs.Tallies.{plain, worst}
 use Rattle.cli_world.specs.declared.status.Status.{Status}
@@ -34,17 +34,21 @@ pub record Replaces (name bytes : List ℕ) (old new : Seen) : Type 0 where
   pub out : new.out ≡ old.out
   pub err : new.err ≡ old.err
 
+-- the name of the output in reports
+abbrev pub output : List ℕ
+output = codes "standard output"
+
 -- a write to the output failed, which is reported
-pub record IsUnprinted (name bytes : List ℕ) (old new : Seen) : Type 0 where
+pub record IsUnprinted (bytes : List ℕ) (old new : Seen) : Type 0 where
   pub out : IsCut bytes old.out new.out
   pub why : List ℕ
-  pub err : Gets (problem name why) old.err new.err
+  pub err : Gets (problem output why) old.err new.err
   pub files : FilesStay old new
 
 -- an effect takes place, or fails
 pub data Happens (name : List ℕ) (old new : Seen) : Effect → Tally → Type 0 where
   printed : {bytes : List ℕ} {t : Tally} → Prints bytes old new → Happens name old new (prints bytes t) t
-  unprinted : {bytes : List ℕ} {t : Tally} → IsUnprinted name bytes old new → Happens name old new (prints bytes t) (plain Failed)
+  unprinted : {bytes : List ℕ} {t : Tally} → IsUnprinted bytes old new → Happens name old new (prints bytes t) (plain Failed)
   reported : {text : List ℕ} {s : Status} → Reports text old new → Happens name old new (reports text s) (plain s)
   replaced : {bytes : List ℕ} → Replaces name bytes old new → Happens name old new (replaces bytes) (plain Done)
   unreplaced : {bytes : List ℕ} → IsLost name old new → Happens name old new (replaces bytes) (plain Failed)
@@ -54,10 +58,11 @@ pub data Does (P : Effect → Type 0) (name : List ℕ) (old new : Seen) : Tally
   does : {e : Effect} {t : Tally} → P e → Happens name old new e t → Does P name old new t
   memory : Reports (problem name (codes "out of memory")) old new → Does P name old new (plain Failed)
 
--- a file has no text, or what is to be done with its text is done
-pub data Acts (act : List ℕ → Effect → Type 0) (name : List ℕ) (old new : Seen) : Tally → Type 0 where
-  acts : {text : List ℕ} {t : Tally} → Has old.files name text → IsUtf8 text → Does (act text) name old new t → Acts act name old new t
-  unread : {s : Status} → IsUnread name old new s → Acts act name old new (plain s)
+-- what is to be done with the text of a file is done, or what is to be done with bytes that are not UTF-8, or the file was not read
+pub data Acts (act not_utf8 : List ℕ → Effect → Type 0) (name : List ℕ) (old new : Seen) : Tally → Type 0 where
+  acts : {text : List ℕ} {t : Tally} → Has old.files name text → IsUtf8 text → Does (act text) name old new t → Acts act not_utf8 name old new t
+  refuses : {bytes : List ℕ} {t : Tally} → Has old.files name bytes → (IsUtf8 bytes → ⊥) → Does (not_utf8 bytes) name old new t → Acts act not_utf8 name old new t
+  lost : IsLost name old new → Acts act not_utf8 name old new (plain Failed)
 
 -- files are acted on one after another
 pub data Each (act : List ℕ → Seen → Seen → Tally → Type 0) : List (List ℕ) → Seen → Seen → List Tally → Type 0 where

@@ -1,11 +1,11 @@
 -- What can be seen of a run.
-use Rattle.std.specs.Prelude.{◌≡◌, ◌++◌, Bool, IsUtf8, List, codes, decimal, if◌then◌else◌, true, ℕ}
+use Rattle.std.specs.Prelude.{◌≡◌, ◌++◌, Bool, IsUtf8, List, codes, if◌then◌else◌, true, ℕ}
 use Rattle.std.specs.Str.{bytes_eq}
-use Rattle.std.specs.Str.Lossy.{utf8_valid_len}
+use Rattle.kdl_report.specs.Shown.{shown_bytes}
 use Rattle.watched.specs.Streams.{Gets, Stream}
 use Rattle.cli_world.specs.Files.{Files, Has, Kept}
-use Rattle.cli_world.specs.declared.status.Status.{Status}
-use Rattle.cli_world.specs.declared.status.Status.TheVariants.{Found, Failed}
+use Rattle.cli_world.specs.declared.world.Unread.{Unread}
+use Rattle.cli_world.specs.declared.world.Unread.TheVariants.{Lost, NotUtf8}
 
 -- the bytes of the files, which of them may fail to be read or replaced, the output, and standard error
 pub record Seen : Type 0 where
@@ -18,17 +18,13 @@ pub record Seen : Type 0 where
 abbrev pub FilesStay : Seen → Seen → Type 0
 FilesStay old new = Kept old.files new.files × (new.may_fail ≡ old.may_fail)
 
--- the name of a file as it is shown
+-- the name that a file has in reports
 abbrev pub shown_name : List ℕ → List ℕ
 shown_name name = if bytes_eq name (codes "-") then codes "<stdin>" else name
 
 -- the line on what is wrong with a file
 abbrev pub problem : List ℕ → List ℕ → List ℕ
-problem name what = codes "kdl: " ++ shown_name name ++ codes ": " ++ what ++ codes "\n"
-
--- the line on a file that is not UTF-8 from a byte on
-abbrev pub not_utf8 : List ℕ → ℕ → List ℕ
-not_utf8 name byte = problem name (codes "not UTF-8 at byte " ++ decimal byte)
+problem name what = codes "kdl: " ++ shown_bytes (shown_name name) ++ codes ": " ++ what ++ codes "\n"
 
 -- the line on what is wrong with the command line
 abbrev pub complaint : List ℕ → List ℕ
@@ -46,9 +42,7 @@ pub record IsLost (name : List ℕ) (old new : Seen) : Type 0 where
   pub why : List ℕ
   pub reports : Reports (problem name why) old new
 
--- a file has no text, with the status for that: it is not UTF-8, or it was not read
-abbrev pub IsUnread : List ℕ → Seen → Seen → Status → Type 0
-IsUnread name old new Found = (bytes : List ℕ) × Has old.files name bytes × (IsUtf8 bytes → ⊥)
-    × Reports (not_utf8 name (utf8_valid_len bytes)) old new
-IsUnread name old new Failed = IsLost name old new
-IsUnread name old new _ = ⊥
+-- a file has no text: it is not UTF-8, or it was not read
+abbrev pub IsUnread : List ℕ → Seen → Seen → Unread → Type 0
+IsUnread name old new (NotUtf8 bytes) = (new ≡ old) × Has old.files name bytes.items × (IsUtf8 bytes.items → ⊥)
+IsUnread name old new Lost = IsLost name old new

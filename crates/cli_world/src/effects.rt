@@ -16,7 +16,7 @@ use std::alloc::Global;
 pub fn print<W: World>(alloc: Global, world: &mut W, name: &str, text: &str, tally: Tally) -> Tally
     ensures { Happens name.now (W.seen world.old) (W.seen world.new) (prints text.now tally) result }
 {
-    match world.print(alloc, name, text) {
+    match world.print(alloc, text) {
         Ok(()) => tally,
         Err(status) => Tally::plain(status),
     }

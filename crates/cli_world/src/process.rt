@@ -1,14 +1,15 @@
 //! The files, the output and standard error of a process.
 
-ghost use Rattle.cli_world.specs.Seen.{not_utf8, problem};
-ghost use Rattle.std.specs.Prelude.{◌≡◌, IfErr, IfOk, IsUtf8, List, OnOk, flat_map, string_bytes, ℕ};
-ghost use Rattle.std.specs.Str.Lossy.{utf8_valid_len};
+ghost use Rattle.cli_world.specs.Seen.{problem};
+ghost use Rattle.kdl_report.specs.Shown.{shown_bytes};
+ghost use Rattle.std.specs.Prelude.{◌++◌, List, codes, flat_map, ℕ};
 ghost use Rattle.watched.specs.Streams.{Gets, stream};
+ghost use Rattle.watched.specs.Writing.{Writes};
 
 use crate::status::Status;
 use crate::store::Store;
-use crate::world::{World, shown_name};
-use itoa::Buffer;
+use crate::world::{OUTPUT, Unread, World, shown_name};
+use kdl_report::{is_shown_as_is, shown_char};
 use std::alloc::Global;
 use std::io;
 use std::io::{ErrorKind, Write};
@@ -30,22 +31,25 @@ impl<S: Store, O: Write, E: Write> World for Process<S, O, E> {
       err = stream E.contents p.err;
     } };
 
-    fn text(&mut self, alloc: Global, name: &str) -> Result<String, Status> {
+    fn text(&mut self, alloc: Global, name: &str) -> Result<String, Unread> {
         match self.files.read(alloc, name) {
-            Ok(bytes) => checked(&mut self.err, name, bytes),
+            Ok(bytes) => match String::from_utf8(bytes) {
+                Ok(text) => Ok(text),
+                Err(error) => Err(Unread::NotUtf8(error.into_bytes())),
+            },
             Err(error) => {
                 report_error(alloc, &mut self.err, name, &error);
-                Err(Status::Failed)
+                Err(Unread::Lost)
             }
         }
     }
 
-    fn print(&mut self, alloc: Global, name: &str, text: &str) -> Result<(), Status> {
+    fn print(&mut self, alloc: Global, text: &str) -> Result<(), Status> {
         match self.out.write_whole(text.as_bytes()) {
             Ok(()) => Ok(()),
             Err(error) if error.kind() == ErrorKind::BrokenPipe => Ok(()),
             Err(error) => {
-                report_error(alloc, &mut self.err, name, &error);
+                report_error(alloc, &mut self.err, OUTPUT, &error);
                 Err(Status::Failed)
             }
         }
@@ -75,39 +79,6 @@ impl<S: Store, O: Write, E: Write> World for Process<S, O, E> {
     }
 }
 
-/// Returns the bytes of a file as a text. If they are none, writes that, and returns `Found`.
-fn checked<E: Write>(err: &mut Watched<E>, name: &str, bytes: Vec<u8>) -> Result<String, Status>
-    ensures text { IfOk result (λ s. string_bytes s ≡ bytes.items) }
-    ensures same { OnOk result (err.new ≡ err.old) }
-    ensures not_utf8 { IfErr result (λ s. (s ≡ Status.Found) × (IsUtf8 bytes.items → ⊥)
-        × Gets (not_utf8 name.now (utf8_valid_len bytes.items)) (stream E.contents err.old) (stream E.contents err.new)) }
-{
-    match String::from_utf8(bytes) {
-        Ok(text) => Ok(text),
-        Err(error) => {
-            write_not_utf8(err, name, error.utf8_error().valid_up_to());
-            Err(Status::Found)
-        }
-    }
-}
-
-/// Writes that a file is not UTF-8 from a byte on, on a line.
-fn write_not_utf8<E: Write>(err: &mut Watched<E>, name: &str, byte: usize)
-    ensures { Gets (not_utf8 name.now byte) (stream E.contents err.old) (stream E.contents err.new) }
-{
-    let name = shown_name(name);
-    let mut buffer = Buffer::new();
-    let byte = buffer.format(byte);
-    let pieces = [
-        b"kdl: ",
-        name.as_bytes(),
-        b": not UTF-8 at byte ",
-        byte.as_bytes(),
-        b"\n",
-    ];
-    write_line(err, &pieces);
-}
-
 /// Writes a line of these pieces, as far as that succeeds.
 fn write_line<E: Write>(err: &mut Watched<E>, pieces: &[&[u8]])
     ensures { Gets (flat_map (λ p. p.now) pieces.now) (stream E.contents err.old) (stream E.contents err.new) }
@@ -120,8 +91,31 @@ fn write_problem<E: Write>(err: &mut Watched<E>, name: &str, what: &str)
     ensures { Gets (problem name.now what.now) (stream E.contents err.old) (stream E.contents err.new) }
 {
     let name = shown_name(name);
-    let pieces = [b"kdl: ", name.as_bytes(), b": ", what.as_bytes(), b"\n"];
-    write_line(err, &pieces);
+    if is_shown_as_is(name) {
+        let pieces = [b"kdl: ", name.as_bytes(), b": ", what.as_bytes(), b"\n"];
+        return write_line(err, &pieces);
+    }
+    let _ = write_strange(err, name, what);
+}
+
+/// Writes what is wrong with a file whose name has characters that are not shown as they are.
+fn write_strange<E: Write>(err: &mut Watched<E>, name: &str, what: &str) -> io::Result<()>
+    ensures { Writes E.contents err.old err.new
+        (codes "kdl: " ++ shown_bytes name.now ++ codes ": " ++ what.now ++ codes "\n") result }
+{
+    err.write_whole(b"kdl: ")?;
+    write_shown(err, name)?;
+    err.write_line(&[b": ", what.as_bytes(), b"\n"])
+}
+
+/// Writes what is shown for a name.
+fn write_shown<E: Write>(err: &mut Watched<E>, name: &str) -> io::Result<()>
+    ensures { Writes E.contents err.old err.new (shown_bytes name.now) result }
+{
+    for c in name.chars() {
+        err.write_whole(shown_char(c, &mut [0; 4]).as_bytes())?;
+    }
+    Ok(())
 }
 
 /// Writes why a call on a file failed.

@@ -8,24 +8,34 @@ ghost use Rattle.std.specs.Prelude.{◌≡◌, IfErr, IfOk, OnOk, string_bytes};
 use crate::status::Status;
 use std::alloc::Global;
 
+/// The name of the output in reports.
+pub const OUTPUT: &str = "standard output";
+
+/// Why a file has no text.
+#[derive(Drop)]
+pub enum Unread {
+    /// Its bytes are not UTF-8.
+    NotUtf8(Vec<u8>),
+    /// It was not read, which is reported.
+    Lost,
+}
+
 /// Files, an output and standard error, as a run reads and writes them.
 pub trait World {
     ghost seen: { Self → Seen };
 
-    /// Returns the text of a file.
-    ///
-    /// If the file is not UTF-8 or is not read, reports why, and returns the status for that.
-    fn text(&mut self, alloc: Global, name: &str) -> Result<String, Status>
+    /// Returns the text of a file. If reading it fails, reports why, and returns `Lost`.
+    fn text(&mut self, alloc: Global, name: &str) -> Result<String, Unread>
         ensures text { IfOk result (λ s. Has (seen self.old).files name.now (string_bytes s)) }
         ensures seen { OnOk result (seen self.new ≡ seen self.old) }
         ensures unread { IfErr result (IsUnread name.now (seen self.old) (seen self.new)) };
 
-    /// Writes the text for a file to the output. That no one reads the output is no error.
+    /// Writes the text to the output. That no one reads the output is no error.
     ///
     /// If a write fails otherwise, reports why, and returns `Failed`.
-    fn print(&mut self, alloc: Global, name: &str, text: &str) -> Result<(), Status>
+    fn print(&mut self, alloc: Global, text: &str) -> Result<(), Status>
         ensures printed { OnOk result (Prints text.now (seen self.old) (seen self.new)) }
-        ensures unprinted { IfErr result (λ s. (s ≡ Status.Failed) × IsUnprinted name.now text.now (seen self.old) (seen self.new)) };
+        ensures unprinted { IfErr result (λ s. (s ≡ Status.Failed) × IsUnprinted text.now (seen self.old) (seen self.new)) };
 
     /// Replaces the bytes of a file by the text, as a whole.
     ///
@@ -47,7 +57,7 @@ pub trait World {
         ensures { Reports (complaint why.now) (seen self.old) (seen self.new) };
 }
 
-/// Returns the name of a file as it is shown.
+/// Returns the name that a file has in reports.
 pub fn shown_name(name: &str) -> &str
     ensures { result.now ≡ shown_name name.now }
 {

@@ -15,6 +15,7 @@ use clap::ArgMatches;
 use cli::process::Process;
 use cli::request::{Request, run};
 use cli::status::Status;
+use cli::world::OUTPUT;
 use lsp::serve;
 use std::cell::RefCell;
 use std::io::{BufWriter, ErrorKind};
@@ -55,7 +56,10 @@ fn show(rt: &HostRuntime, error: &clap::Error) -> io::Result<u8> {
     }
     match error.print(rt) {
         // That nobody reads it any more is no error.
-        Err(why) if why.kind() != ErrorKind::BrokenPipe => Err(why),
+        Err(why) if why.kind() != ErrorKind::BrokenPipe => {
+            let _ = eprintln!(rt; "kdl: {OUTPUT}: {why}");
+            Ok(Status::Failed.code())
+        }
         _ => Ok(if error.use_stderr() { 2 } else { 0 }),
     }
 }

@@ -3,8 +3,10 @@ use Rattle.std.proofs.Common.{◌≡◌, ℕ, zero, suc, ◌+◌, Bool, cond, Li
 use Rattle.std.specs.Result.{OnOk}
 use Rattle.std.proofs.lemmas.Bool.{and_left, ne_eqb}
 use Rattle.std.proofs.lemmas.Result.{on_ok_weaker}
+use Rattle.std.specs.Prelude.{String, encode_utf8_all, string_bytes}
 use Rattle.std.specs.Str.{IsUtf8}
-use Rattle.std.proofs.lemmas.Str.{chars-append, chars-nil, encodes-chars}
+use Rattle.std.specs.declared.alloc.Global.{Global}
+use Rattle.std.proofs.lemmas.Str.{IsUtf8-string_bytes, chars-append, chars-nil, encodes-append, encodes-chars}
 use lib.Utf8.{encodes}
 use Rattle.std.proofs.lemmas.List.{append-nil, nil_from_length}
 use Rattle.std.proofs.lemmas.List.Concat.{flat_map-append}
@@ -12,11 +14,16 @@ use Rattle.std.proofs.lemmas.List.Sums.{sum_by-append}
 use Rattle.kdl_text.specs.Chars.{Text, times}
 use Rattle.kdl_report.specs.declared.places.Place.{Place}
 use Rattle.kdl_report.specs.Picture.{spaced}
-use Rattle.kdl_report.specs.Shown.{columns, shown, shown_char, width}
+use Rattle.kdl_report.specs.Shown.{columns, shown, shown_bytes, shown_char, text_of, width}
 
 pub appended : {A E : Type 0} (r : Result A E) (old new s : List ℕ) → IsUtf8 old → new ≡ cond (is_ok r) (old ++ s) old → OnOk r (chars new ≡ chars old ++ chars s)
 appended (Ok u) old new s h e = ap chars e ∙ chars-append old s h
 appended (Err u) old new s h e = tt
+
+-- the bytes that are appended
+pub bytes_appended : (old new : String Global) (t : Text) → text_of new ≡ text_of old ++ t → string_bytes new ≡ string_bytes old ++ encode_utf8_all t
+bytes_appended old new t e =
+    sym (encodes-chars (string_bytes new) (IsUtf8-string_bytes new)) ∙ (ap encodes e ∙ (encodes-append (text_of old) t ∙ ap (λ z. z ++ encodes t) (encodes-chars (string_bytes old) (IsUtf8-string_bytes old))))
 
 -- one more
 pub times_push : (n c : ℕ) → times n c ++ c ∷ [] ≡ times (suc n) c
@@ -31,6 +38,10 @@ times_add (suc m) n c =
 
 pub shown_push : (t : Text) (c : ℕ) → shown (t ++ c ∷ []) ≡ shown t ++ shown_char c
 shown_push t c = flat_map-append shown_char t (c ∷ []) ∙ ap (λ z. shown t ++ z) (append-nil (shown_char c))
+
+-- a text whose characters are shown as they are
+pub as_is : (bs t : List ℕ) → IsUtf8 bs → t ≡ chars bs → shown t ≡ t → shown_bytes bs ≡ bs
+as_is bs t u e h = ap (λ z. encodes (shown z)) (sym e) ∙ (ap encodes (h ∙ e) ∙ encodes-chars bs u)
 
 pub columns_push : (t : Text) (c : ℕ) → columns (shown (t ++ c ∷ [])) ≡ columns (shown t) + columns (shown_char c)
 columns_push t c = ap columns (shown_push t c) ∙ sum_by-append width (shown t) (shown_char c)

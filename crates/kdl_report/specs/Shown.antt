@@ -1,5 +1,5 @@
 -- How text is shown in a terminal, and how many columns it takes there.
-use Rattle.std.specs.Prelude.{◌≡◌, ℕ, Bool, false, ◌||◌, ◌==◌, not, max, is_some, unwrap_or, [], ◌∷◌, ◌++◌, chars, flat_map, if◌then◌else◌, OnOk, Result, String, string_bytes}
+use Rattle.std.specs.Prelude.{◌≡◌, ℕ, Bool, false, ◌||◌, ◌==◌, not, max, is_some, unwrap_or, [], ◌∷◌, ◌++◌, List, chars, encode_utf8_all, flat_map, if◌then◌else◌, OnOk, Result, String, string_bytes}
 use Rattle.std.specs.List.{sum_by}
 use Rattle.std.specs.declared.alloc.Global.{Global}
 use Rattle.kdl_text.specs.Chars.{Text, is_banned, is_newline_char, times}
@@ -20,6 +20,10 @@ shown_char c = if c == 9 then times 4 32 else visible c ∷ []
 -- what is shown for a text
 abbrev pub shown : Text → Text
 shown = flat_map shown_char
+
+-- the same of bytes
+abbrev pub shown_bytes : List ℕ → List ℕ
+shown_bytes s = encode_utf8_all (shown (chars s))
 
 -- the columns of a character in a terminal
 abbrev pub width : ℕ → ℕ

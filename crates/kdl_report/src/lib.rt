@@ -47,3 +47,4 @@ pub use line::short;
 pub use object::json;
 pub use picture::{render, render_without_hint};
 pub use places::{Lines, Place};
+pub use shown::{is_shown_as_is, shown_char, shown_text};

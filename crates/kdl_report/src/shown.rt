@@ -1,13 +1,13 @@
 //! How text is shown in a terminal, and how many columns it takes there.
 
-ghost use Rattle.kdl_report.specs.Shown.{Appends, carets, columns, is_hidden, shown, shown_char, visible};
+ghost use Rattle.kdl_report.specs.Shown.{Appends, carets, columns, is_hidden, shown, shown_bytes, shown_char, visible};
 ghost use Rattle.kdl_report.specs.Windows.{room};
 ghost use Rattle.kdl_text.specs.Chars.{times};
-ghost use Rattle.std.specs.Prelude.{◌≡◌, ◌==◌, ◌≤◌, ◌∷◌, [], IfOk, chars, decimal, length};
+ghost use Rattle.std.specs.Prelude.{◌≡◌, ◌==◌, ◌≤◌, ◌∷◌, [], IfOk, IsTrue, chars, decimal, encode_utf8_all, length, string_bytes};
 
 use itoa::Buffer;
 use kdl_text::chars::{is_banned, is_newline_char};
-use std::alloc::AllocError;
+use std::alloc::{AllocError, Global};
 use unicode_width::UnicodeWidthChar;
 
 /// The columns of a tab.
@@ -87,6 +87,38 @@ pub(crate) fn put_times(out: &mut String, n: usize, c: char) -> Result<(), Alloc
         put_char(out, c)?;
     }
     Ok(())
+}
+
+/// Returns what is shown for a character: in the buffer, but for a tab.
+pub fn shown_char(c: char, buffer: &mut [u8; 4]) -> &str
+    ensures { result.now ≡ encode_utf8_all (shown_char c) }
+{
+    if c == '\t' {
+        "    "
+    } else {
+        visible(c).encode_utf8(buffer)
+    }
+}
+
+/// Returns whether the text is shown as it is.
+pub fn is_shown_as_is(text: &str) -> bool
+    ensures { IsTrue result → shown_bytes text.now ≡ text.now }
+{
+    for c in text.chars() {
+        if c == '\t' || is_hidden(c) {
+            return false;
+        }
+    }
+    true
+}
+
+/// Returns what is shown for the text.
+pub fn shown_text(alloc: Global, text: &str) -> Result<String, AllocError>
+    ensures { IfOk result (λ out. string_bytes out ≡ shown_bytes text.now) }
+{
+    let mut out = String::new(alloc);
+    put_shown(&mut out, text)?;
+    Ok(out)
 }
 
 /// Appends what is shown for a character.

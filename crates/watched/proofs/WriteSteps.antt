@@ -26,18 +26,19 @@ lengths : (front part rest whole : List ℕ) → whole ≡ front ++ (part ++ res
 lengths front part rest whole is =
     ap length is ∙ length-append front (part ++ rest) ∙ ap (λ k. length front + k) (length-append part rest)
 
+-- a front is written, and then only a prefix of the part after it
+pub cut_after : (front part rest whole : List ℕ) (old mid new : Stream) → whole ≡ front ++ (part ++ rest) → Grows front old mid → IsCut part mid new → IsCut whole old new
+cut_after front part rest whole old mid new is (before, same) ((n, few, bytes), fails) =
+    let size = lengths front part rest whole is in
+    let begins : take (length front + n) whole ≡ front ++ take n part =
+    ap (take (length front + n)) is ∙ take-append-add front (part ++ rest) n ∙ ap (λ l. front ++ l) (take-append-le n part rest (omega arith)) in
+    ((length front + n, omega (arith, few, size), subst (Appends old.bytes new.bytes) (sym begins) (Appends-trans old.bytes mid.bytes new.bytes front (take n part) before bytes)), fails)
+
 -- the parts up to the i-th are written, and then only a prefix of that one
 pub stopped : {X : Type 0} (f : X → List ℕ) (xs : List X) (i : ℕ) (x : X) (old mid new : Stream) → i < length xs → x ≡ get_or xs i x
     → Grows (flat_map f (take i xs)) old mid → IsCut (f x) mid new → IsCut (flat_map f xs) old new
-stopped f xs i x old mid new within is (before, same) ((n, few, part), fails) =
-    let front = flat_map f (take i xs) in
-    let rest = flat_map f (drop (suc i) xs) in
-    let whole = parts f xs i x within is in
-    let size = lengths front (f x) rest (flat_map f xs) whole in
-    let begins : take (length front + n) (flat_map f xs) ≡ front ++ take n (f x) =
-    ap (take (length front + n)) whole ∙ take-append-add front (f x ++ rest) n ∙ ap (λ l. front ++ l) (take-append-le n (f x) rest (omega arith)) in
-    let bytes = subst (Appends old.bytes new.bytes) (sym begins) (Appends-trans old.bytes mid.bytes new.bytes front (take n (f x)) before part) in
-    ((length front + n, omega (arith, few, size), bytes), fails)
+stopped f xs i x old mid new within is before cut =
+    cut_after (flat_map f (take i xs)) (f x) (flat_map f (drop (suc i) xs)) (flat_map f xs) old mid new (parts f xs i x within is) before cut
 
 -- the i-th part does not fit after those before it
 pub too_long : {X : Type 0} (f : X → List ℕ) (xs : List X) (i : ℕ) (x : X) (room : ℕ) → i < length xs → x ≡ get_or xs i x

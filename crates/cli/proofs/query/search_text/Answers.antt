@@ -2,7 +2,7 @@ use Rattle.std.proofs.Common.{List, ap, inl, inr, string_bytes, ℕ}
 use Rattle.cli_world.proofs.Acting.{Does-map, does_this, memory_is}
 use Rattle.cli_world.specs.Acts.Effect.{prints}
 use Rattle.cli_world.specs.declared.status.Status.TheVariants.{Done}
-use Rattle.cli.specs.Reports.{ReportsFaults}
+use Rattle.cli.specs.Reports.{ReportsError}
 use Rattle.cli.specs.Searches.{Searches}
 use Rattle.cli.proofs.ReportSteps.{is_faulty}
 use Rattle.cli.proofs.query.search_text.Goals as goal
@@ -14,8 +14,9 @@ returns-in-Ok g c =
 
 pub returns-in-Err-Syntax : goal.returns-in-Err-Syntax
 returns-in-Err-Syntax g c =
-    Does-map (ReportsFaults c.args.search.now.style c.args.name.now c.args.text.now) (Searches c.args.search.now c.args.name.now c.args.text.now) (λ e h. inr h) c.args.name.now _ _ c.report_faults.result
-    (c.report_faults.ensures (is_faulty c.args.text.now _ c.in-Err-Syntax.field-0 c.in-Err-Syntax.error c.in-Err-Syntax.is c.in-Err-Syntax.field-0-is c.selected.ensures.refused c.selected.ensures.told))
+    let faulty = is_faulty c.args.text.now _ c.in-Err-Syntax.field-0 c.in-Err-Syntax.error c.in-Err-Syntax.is c.in-Err-Syntax.field-0-is c.selected.ensures.refused c.selected.ensures.told in
+    Does-map (ReportsError c.args.search.now.style c.args.name.now c.args.text.now c.in-Err-Syntax.error) (Searches c.args.search.now c.args.name.now c.args.text.now) (λ e h. inr (c.in-Err-Syntax.error, faulty, h)) c.args.name.now _ _
+    c.report_faults.result c.report_faults.ensures
 
 pub returns-in-Err-Memory : goal.returns-in-Err-Memory
 returns-in-Err-Memory g c = memory_is (Searches c.args.search.now c.args.name.now c.args.text.now) c.args.name.now _ _ c.report_memory.result c.report_memory.ensures.reports c.report_memory.ensures.failed
