@@ -90,15 +90,15 @@ open_untold method params is none = go (uri_of params) (text_of params) refl ref
     go (Some u) (Some t) uri text = absurd (none (Opened u (chars t)) (is, uri, ap (option_map chars) text))
 
 -- a text is known after it is opened
-pub open_taken : (method : List ℕ) (params : Json) (old new : State) (says : Type 0) (note : Note) → method ≡ codes "textDocument/didOpen" → Tells method params note
-    → ((uri : List ℕ) → uri_of params ≡ Some uri → IsSome (text_of params) → (says → ⊥) → IsKnown new uri) → IsTaken old new says note
-open_taken method params old new says (Opened uri text) is tells known = known uri tells.1 (go (text_of params) tells.2)
+pub open_taken : (method : List ℕ) (params : Json) (old new : State) (Says : List ℕ → Type 0) (note : Note) → method ≡ codes "textDocument/didOpen" → Tells method params note
+    → ((uri : List ℕ) → uri_of params ≡ Some uri → IsSome (text_of params) → (Says uri → ⊥) → IsKnown new uri) → IsTaken old new Says note
+open_taken method params old new Says (Opened uri text) is tells known = known uri tells.1 (go (text_of params) tells.2)
   where
     go : (t : Option (List ℕ)) → option_map chars t ≡ Some text → IsSome t
     go None mapped = absurd (cc)
     go (Some t) mapped = refl
-open_taken method params old new says (Changed uri changes) is tells known = let lengths : 20 ≡ 22 = ap length (sym is ∙ tells.0) in absurd (omega (arith, lengths))
-open_taken method params old new says (Closed uri) is tells known = let lengths : 20 ≡ 21 = ap length (sym is ∙ tells.0) in absurd (omega (arith, lengths))
+open_taken method params old new Says (Changed uri changes) is tells known = let lengths : 20 ≡ 22 = ap length (sym is ∙ tells.0) in absurd (omega (arith, lengths))
+open_taken method params old new Says (Closed uri) is tells known = let lengths : 20 ≡ 21 = ap length (sym is ∙ tells.0) in absurd (omega (arith, lengths))
 
 -- there is one URI
 pub one_uri : (found : Option (Bor (List ℕ))) (u : Bor (List ℕ)) (params : Json) (uri : List ℕ) → option_map (λ s. s.now) found ≡ uri_of params → found ≡ Some u → uri_of params ≡ Some uri → u.now ≡ uri

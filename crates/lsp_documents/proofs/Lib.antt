@@ -4,3 +4,5 @@ pub mod Values
 pub mod Agreeing
 -- Documents whose faults are to be published.
 pub mod Due
+-- The whole number that the text of a number is.
+pub mod Numbers

@@ -1,12 +1,13 @@
 -- Values as numbers, positions and changes.
-use Rattle.std.proofs.Common.{arith, zero, suc, codes, true, chars, IsTrue, refl, ◌≡◌, ◌∙◌, ℕ, ◌+◌, ◌<◌, Option, None, Some, Ok, List, [], ◌∷◌, ◌++◌, IsSomeAnd, length, map, option_and_then, slice_index_or, sym, ap, subst, take}
+use Rattle.std.proofs.Common.{arith, zero, suc, codes, true, chars, IsTrue, refl, ◌≡◌, ◌∙◌, ℕ, ◌+◌, ◌<◌, Option, None, Some, List, [], ◌∷◌, ◌++◌, IsSomeAnd, length, map, option_and_then, slice_index_or, sym, ap, subst, take}
 use Rattle.std.proofs.lemmas.List.{map-append, take_more}
 use Rattle.std.specs.Option.{option_map_or}
-use Rattle.std.specs.Str.Parse.{ParsesUnsigned}
+use Rattle.fast_float.specs.Text.{scan, tens_down}
 use Rattle.json.specs.Find.{get, is_null, as_number, as_str}
 use Rattle.json.specs.Json.{Json, null, boolean, number, string, array, object, Items, no_items, item}
 use Rattle.json.specs.Value.{items_of}
-use Rattle.lsp_documents.specs.Notes.{AreChanges, HasChanges, IsChange, IsNumber, IsPosition, IsRange, IsRangeIf}
+use Rattle.lsp_documents.specs.Notes.{AreChanges, HasChanges, IsChange, IsNatural, IsNumber, IsPosition, IsRange, IsRangeIf}
+use Rattle.lsp_documents.proofs.Numbers.{same_factor}
 use Rattle.lsp_text.specs.declared.change.Change.{Change}
 use Rattle.lsp_text.specs.declared.position.Position.{Position}
 use Rattle.lsp_text.specs.declared.position.Range.{Range}
@@ -36,8 +37,12 @@ one_of : {A B : Type 0} (o : Option A) (P Q : A → Type 0) (x y : B) → ((a : 
 one_of None P Q x y each p q = elim p [ ]
 one_of (Some a) P Q x y each p q = each a p q
 
+-- the text of a number is one whole number
+pub one_natural : (text : List ℕ) (m n : ℕ) → IsNatural text m → IsNatural text n → m ≡ n
+one_natural text m n p q = same_factor m n (tens_down (scan text)) (p.1 ∙ sym q.1)
+
 one_number : (name : List ℕ) (j : Json) (m n : ℕ) → IsNumber name j m → IsNumber name j n → m ≡ n
-one_number name j m n = one_of (option_and_then as_number (get name j)) (λ s. ParsesUnsigned {E = List ℕ} 64 10 s (Ok m)) (λ s. ParsesUnsigned {E = List ℕ} 64 10 s (Ok n)) m n (λ s p q. p.1 ∙ sym q.1)
+one_number name j m n = one_of (option_and_then as_number (get name j)) (λ s. IsNatural s m) (λ s. IsNatural s n) m n (λ s p q. one_natural s m n p q)
 
 abbrev place : ℕ → ℕ → Position
 place l c = record { line = l; character = c }

@@ -1,8 +1,8 @@
 -- What a client tells about its documents, and the texts that it has.
-use Rattle.std.specs.Prelude.{◌≡◌, ℕ, Option, None, Some, Ok, List, [], ◌∷◌, IfSome, IsSomeAnd, IsTrue, chars, codes, option_map, option_and_then, string_bytes, true, if◌then◌else◌}
+use Rattle.std.specs.Prelude.{◌≡◌, ◌*◌, ◌^◌, ◌<◌, ℕ, Option, None, Some, List, [], ◌∷◌, IfSome, IsSomeAnd, IsTrue, chars, codes, option_map, option_and_then, string_bytes, true, if◌then◌else◌}
 use Rattle.std.specs.Option.{option_map_or}
 use Rattle.std.specs.Str.{bytes_eq}
-use Rattle.std.specs.Str.Parse.{ParsesUnsigned}
+use Rattle.fast_float.specs.Text.{digits_of, has_digits, scan, tens_down, tens_up}
 use Rattle.json.specs.Find.{get, is_null, as_str, as_number}
 use Rattle.json.specs.Json.{Json, array, Items, no_items, item}
 use Rattle.lsp_documents.specs.declared.state.Document.{Document}
@@ -25,9 +25,13 @@ uri_of params = option_and_then as_str (at (codes "textDocument") (codes "uri") 
 abbrev pub text_of : Json → Option (List ℕ)
 text_of params = option_and_then as_str (at (codes "textDocument") (codes "text") params)
 
--- the member of that name is the number n
+-- the text of a number is the whole number n, also with a point or an exponent, as `1.0` or `10e-1`
+abbrev pub IsNatural : List ℕ → ℕ → Type 0
+IsNatural text n = let p = scan text in IsTrue (has_digits p) × (n * 10 ^ tens_down p ≡ digits_of p * 10 ^ tens_up p) × (n < 2 ^ 64)
+
+-- the member of that name is the whole number n
 abbrev pub IsNumber : List ℕ → Json → ℕ → Type 0
-IsNumber name j n = IsSomeAnd (option_and_then as_number (get name j)) (λ digits. ParsesUnsigned {E = List ℕ} 64 10 digits (Ok n))
+IsNumber name j n = IsSomeAnd (option_and_then as_number (get name j)) (λ text. IsNatural text n)
 
 -- a value is the position
 abbrev pub IsPosition : Json → Position → Type 0

@@ -1,7 +1,7 @@
 //! Laws of notes and documents, for proofs of callers.
 
 ghost use Rattle.json.specs.Json.{Json, null, number, string, array, object, Items, no_items, item, no_members, member};
-ghost use Rattle.lsp_documents.specs.Notes.{Agrees, AreChanges, Changed, Closed, IsRangeIf, Note, Opened, Tells, Texts};
+ghost use Rattle.lsp_documents.specs.Notes.{Agrees, AreChanges, Changed, Closed, IsNatural, IsRangeIf, Note, Opened, Tells, Texts};
 ghost use Rattle.lsp_documents.specs.Outcomes.{IsDue, IsSo, IsTaken, MarksDue, SaysUnknown, StaysOpen, UnnamedStay};
 ghost use Rattle.lsp_documents.specs.States.{IsKnown, document_at};
 ghost use Rattle.lsp_documents.specs.declared.notify.Outcome.{Outcome};
@@ -34,6 +34,13 @@ pub fn changes_are_not_so()
     ensures array { (values : Items) (range : Option Range) → IsRangeIf (Some (array values)) range → ⊥ }
 {}
 
+/// Numbers with a point or an exponent are whole numbers, or none.
+pub fn numbers_are_so()
+    ensures whole { IsNatural (codes "1") 1 × IsNatural (codes "1.0") 1 × IsNatural (codes "1e0") 1 × IsNatural (codes "10e-1") 1 × IsNatural (codes "1.5E+1") 15 }
+    ensures half { (n : ℕ) → IsNatural (codes "1.5") n → ⊥ }
+    ensures negative { (n : ℕ) → IsNatural (codes "-1") n → ⊥ }
+{}
+
 /// What states are not: one with another text than the client's does not agree with it; a document that is not open, or
 /// without a text, is not known.
 pub fn states_are_not_so()
@@ -45,13 +52,16 @@ pub fn states_are_not_so()
 {}
 
 /// What becomes of no document: one that is opened or changed is not closed, one that is closed is not open, and one that the
-/// parameters do not name is not closed. A server does not say that a known text is not known, that an open document is
+/// parameters do not name is not closed. That another text is
+/// not known does not count. A server does not say that a known text is not known, that an open document is
 /// closed, or anything of a document that the parameters do not name.
 pub fn outcomes_are_not_so()
     ensures opened { (old new : State) (uri : List ℕ) (text : Text) → IsNone (document_at new uri)
         → IsTaken old new (SaysUnknown outcome.Nothing) (Opened uri text) → ⊥ }
     ensures changed { (old new : State) (uri : List ℕ) (changes : List (Option Range × Text)) → IsSome (document_at old uri)
         → IsNone (document_at new uri) → IsTaken old new (SaysUnknown outcome.Nothing) (Changed uri changes) → ⊥ }
+    ensures other { (old new : State) (uri : List ℕ) (named : Bor (List ℕ)) (text : Text) → named.now ≢ uri → IsNone (document_at new uri)
+        → IsTaken old new (SaysUnknown (outcome.Unknown named)) (Opened uri text) → ⊥ }
     ensures stays { (old new : State) (uri : List ℕ) → IsSome (document_at old uri) → IsNone (document_at new uri)
         → StaysOpen old new uri → ⊥ }
     ensures opens { (old new : State) (uri : List ℕ) → IsNone (document_at old uri) → IsSome (document_at new uri)
@@ -68,5 +78,5 @@ pub fn outcomes_are_not_so()
 /// Where no document is due, none is marked as due.
 pub fn due_documents_are_not_so()
     ensures none { (s : State) (uri : List ℕ) → s.due.items ≡ [] → IsDue s uri → ⊥ }
-    ensures opened { (old new : State) (uri : List ℕ) (text : Text) → new.due.items ≡ [] → MarksDue old new (Opened uri text) → ⊥ }
+    ensures opened { (old new : State) (uri : List ℕ) (text : Text) → new.due.items ≡ [] → MarksDue old new (SaysUnknown outcome.Nothing) (Opened uri text) → ⊥ }
 {}

@@ -43,7 +43,7 @@ impl State {
         ensures taken { self.old.phase ≡ Phase.Running → (note : Note) → Tells method.now (value_view params.now) note
             → IsTaken self.old self.new (SaysUnknown result) note }
         ensures due { self.old.phase ≡ Phase.Running → (note : Note) → Tells method.now (value_view params.now) note
-            → (SaysUnknown result → ⊥) → MarksDue self.old self.new note }
+            → MarksDue self.old self.new (SaysUnknown result) note }
         ensures stays { (uri : List ℕ) (changes : List (Option Range × Text)) → Tells method.now (value_view params.now) (Changed uri changes)
             → StaysOpen self.old self.new uri }
         ensures others { UnnamedStay self.old self.new (value_view params.now) }
@@ -75,9 +75,9 @@ impl State {
         ensures untold { (uri_of (value_view params.now) ≡ None) ⊎ (text_of (value_view params.now) ≡ None) → self.new ≡ self.old }
         ensures session { SessionStays self.old self.new }
         ensures known { (uri : List ℕ) → uri_of (value_view params.now) ≡ Some uri → IsSome (text_of (value_view params.now))
-            → (SaysUnknown result → ⊥) → IsKnown self.new uri }
+            → (SaysUnknown result uri → ⊥) → IsKnown self.new uri }
         ensures due { (uri : List ℕ) → uri_of (value_view params.now) ≡ Some uri → IsSome (text_of (value_view params.now))
-            → (SaysUnknown result → ⊥) → IsDue self.new uri }
+            → (SaysUnknown result uri → ⊥) → IsDue self.new uri }
         ensures others { UnnamedStay self.old self.new (value_view params.now) }
         ensures outcome { IsSo result (value_view params.now) self.new }
     {
@@ -118,9 +118,9 @@ impl State {
             → (texts : Texts) → Agrees self.old texts → Agrees self.new texts }
         ensures session { SessionStays self.old self.new }
         ensures stays { (uri : List ℕ) → uri_of (value_view params.now) ≡ Some uri → StaysOpen self.old self.new uri }
-        ensures known { (uri : List ℕ) → uri_of (value_view params.now) ≡ Some uri → (SaysUnknown result → ⊥)
+        ensures known { (uri : List ℕ) → uri_of (value_view params.now) ≡ Some uri → (SaysUnknown result uri → ⊥)
             → IsSome (document_at self.old uri) → IsKnown self.new uri }
-        ensures due { (uri : List ℕ) → uri_of (value_view params.now) ≡ Some uri → (SaysUnknown result → ⊥)
+        ensures due { (uri : List ℕ) → uri_of (value_view params.now) ≡ Some uri → (SaysUnknown result uri → ⊥)
             → IsSome (document_at self.old uri) → IsDue self.new uri }
         ensures others { UnnamedStay self.old self.new (value_view params.now) }
         ensures outcome { IsSo result (value_view params.now) self.new }

@@ -3,10 +3,11 @@
 ghost use Rattle.json.specs.Find.{get};
 ghost use Rattle.json.specs.Value.{items_view, value_view};
 ghost use Rattle.lsp_documents.specs.Notes as spec;
-ghost use Rattle.lsp_documents.specs.Notes.{AreChanges, HasChanges, IsChange, IsNumber, IsPosition, IsRange, text_of, uri_of};
+ghost use Rattle.lsp_documents.specs.Notes.{AreChanges, HasChanges, IsChange, IsNatural, IsNumber, IsPosition, IsRange, text_of, uri_of};
 ghost use Rattle.lsp_text.specs.Positions.{Text, change_of};
-ghost use Rattle.std.specs.Prelude.{◌≡◌, ℕ, List, Option, Some, IfOk, IfSome, IsSome, IsSomeAnd, chars, codes, map, option_map};
+ghost use Rattle.std.specs.Prelude.{◌≡◌, ◌↔◌, ℕ, List, Option, Some, IfOk, IfSome, IsSome, IsSomeAnd, chars, codes, map, option_map};
 
+use fast_float::Numeral;
 use json::Value;
 use lsp_text::{Change, Encoding, Position, Range};
 use std::alloc::{AllocError, Global};
@@ -34,7 +35,11 @@ pub fn text<'a>(params: &Value<'a>) -> Option<&'a str>
 
 /// Returns the version of the document, if there is one.
 pub fn version(params: &Value<'_>) -> Option<i64> {
-    at(params, "textDocument", "version")?.as_i64()
+    let text = at(params, "textDocument", "version")?.as_number()?;
+    match text.strip_prefix("-") {
+        Some(digits) => Numeral::scan(digits.as_bytes()).whole_i64(true),
+        None => Numeral::scan(text.as_bytes()).whole_i64(false),
+    }
 }
 
 /// Returns the first encoding of the client that there is, or UTF-16.
@@ -64,12 +69,24 @@ fn encoding_named(name: &Value<'_>) -> Option<Encoding> {
     }
 }
 
-/// Returns the number that a member is.
+/// Returns the whole number that a member is, also one with a point or an exponent, as `1.0` or `10e-1`.
 pub fn number(value: &Value<'_>, name: &str) -> Option<usize>
     ensures number { IfSome result (λ n. IsNumber name.now (value_view value.now) n) }
     ensures each { (n : ℕ) → IsNumber name.now (value_view value.now) n → result ≡ Some n }
 {
-    usize::try_from(value.get(name)?.as_u64()?).ok()
+    usize::try_from(natural(value.get(name)?.as_number()?)?).ok()
+}
+
+/// Returns the whole number that the text of a number of JSON is.
+fn natural(text: &str) -> Option<u64>
+    ensures { (n : ℕ) → IsNatural text.now n ↔ (result ≡ Some n) }
+{
+    let numeral = Numeral::scan(text.as_bytes());
+    if numeral.has_digits() {
+        numeral.whole_u64()
+    } else {
+        None
+    }
 }
 
 /// Returns the position that a value is.

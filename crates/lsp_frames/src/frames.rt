@@ -4,7 +4,7 @@ ghost use Rattle.lsp_frames.specs.Frames as spec;
 ghost use Rattle.lsp_frames.specs.Frames.{GivesFirst, left_after};
 ghost use Rattle.std.specs.Io.BufRead.{Rests};
 ghost use Rattle.std.specs.Borrow.{sem};
-ghost use Rattle.std.specs.Prelude.{◌≡◌, [], ◌++◌, OnErr, OnOk};
+ghost use Rattle.std.specs.Prelude.{◌≡◌, [], ◌++◌, OnErr, OnOk, length};
 
 use crate::front::{Front, first_frame};
 use std::alloc::{AllocError, Global};
@@ -40,15 +40,31 @@ impl Frames {
         }
     }
 
-    /// Appends bytes of the input. If an allocation fails, nothing changes.
-    pub fn push(&mut self, bytes: &[u8]) -> Result<(), AllocError>
-        ensures ok { OnOk result (self.new ≡ self.old ++ bytes.now) }
-        ensures err { OnErr result (self.new ≡ self.old) }
+    /// Returns how many bytes are not taken yet.
+    pub fn len(&self) -> usize
+        ensures { result ≡ length self.now }
+    {
+        self.bytes.len() - self.taken
+    }
+
+    /// Makes room for so many more bytes, which `push` then appends without an allocation. If an allocation fails, nothing
+    /// changes.
+    pub fn reserve(&mut self, additional: usize) -> Result<(), AllocError>
+        ensures { self.new ≡ self.old }
     {
         if self.taken > self.bytes.len() / 2 {
             self.bytes.drain(..self.taken);
             self.taken = 0;
         }
+        self.bytes.reserve(additional)
+    }
+
+    /// Appends bytes of the input. If an allocation fails, nothing changes.
+    pub fn push(&mut self, bytes: &[u8]) -> Result<(), AllocError>
+        ensures ok { OnOk result (self.new ≡ self.old ++ bytes.now) }
+        ensures err { OnErr result (self.new ≡ self.old) }
+    {
+        self.reserve(bytes.len())?;
         self.bytes.extend_from_slice(bytes)
     }
 

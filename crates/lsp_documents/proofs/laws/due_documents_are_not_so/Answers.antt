@@ -5,4 +5,4 @@ pub returns-clause-none : goal.returns-clause-none
 returns-clause-none c = none_due
 
 pub returns-clause-opened : goal.returns-clause-opened
-returns-clause-opened c old new uri text none marks = none_due new uri none marks
+returns-clause-opened c old new uri text none marks = none_due new uri none (marks (λ says. says))
