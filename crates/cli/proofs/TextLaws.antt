@@ -1,8 +1,7 @@
 -- Texts of the program itself are shown.
-use Rattle.std.proofs.Common.{◌≡◌, ◌∙◌, [], List, Some, false, subst, sym, ℕ}
-use Rattle.cli_words.proofs.OfWords.{some_page, some_script}
-use Rattle.cli_words.specs.Completions.{IsScript}
-use Rattle.cli_words.specs.Manual.{IsManual}
+use Rattle.std.proofs.Common.{◌≡◌, ◌∙◌, [], List, Some, codes, false, subst, sym, ℕ}
+use Rattle.cli_words.proofs.Written.{some_page, some_script}
+use Rattle.cli_words.specs.Template.{IsManual, IsScript}
 use Rattle.cli_words.specs.declared.completions.Shell.{Shell}
 use Rattle.cli_world.specs.Acts.{Does, Effect, Happens, output}
 use Rattle.cli_world.specs.Acts.Does.{does, memory}

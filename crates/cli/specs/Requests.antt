@@ -6,8 +6,7 @@ use Rattle.std.specs.Str.{bytes_eq}
 use Rattle.kdl_report.specs.Places.{column, line_number}
 use Rattle.kdl_report.specs.Shown.{shown_bytes}
 use Rattle.kdl_text.specs.Chars.{Text}
-use Rattle.cli_words.specs.Completions.{IsScript}
-use Rattle.cli_words.specs.Manual.{IsManual}
+use Rattle.cli_words.specs.Template.{IsManual, IsScript}
 use Rattle.cli_world.specs.Acts.{Does, output}
 use Rattle.cli_world.specs.Acts.Effect.{prints}
 use Rattle.cli_world.specs.Files.{Files, Has}

@@ -3,8 +3,7 @@
 ghost use Rattle.cli.specs.Config.{Configures};
 ghost use Rattle.cli.specs.Formats.{FormatsFiles};
 ghost use Rattle.cli.specs.Requests.{AsksInput, GivesSettings, IsUnsettled, IsUnusable, Runs, RunsAsk, RunsCheck, RunsFormat, RunsSearch, Settles, Shows, has_input_twice, job_of, misfit_line, names_of, or_input, replaces_input, times_input, settings_status, unfit_report};
-ghost use Rattle.cli_words.specs.Completions.{IsScript};
-ghost use Rattle.cli_words.specs.Manual.{IsManual};
+ghost use Rattle.cli_words.specs.Template.{IsManual, IsScript};
 ghost use Rattle.cli_world.specs.Acts.{Happens, output};
 ghost use Rattle.cli_world.specs.Acts.Effect.{prints};
 ghost use Rattle.cli_world.specs.Files.{Has};

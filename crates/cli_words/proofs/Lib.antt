@@ -1,4 +1,4 @@
--- Texts as `man` shows them, character by character.
-pub mod ManChars
--- Texts that are made of the words of the program.
-pub mod OfWords
+-- Texts that are in order in a text.
+pub mod InOrder
+-- The script and the manual page are on the words of the program.
+pub mod Written

@@ -1,8 +1,4 @@
--- The completions of shells.
-pub mod Completions
--- The manual page.
-pub mod Manual
--- Pieces that several texts have.
-pub mod Pieces
+-- The completions of shells and the manual page, by templates.
+pub mod Template
 -- The words of the program and their flags.
 pub mod Words

@@ -2,6 +2,7 @@
 #![tactic(auto)]
 
 pub mod completions;
+mod laws;
 pub mod manual;
-mod text;
+mod template;
 pub mod words;

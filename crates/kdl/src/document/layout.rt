@@ -35,8 +35,8 @@ impl KdlDocument {
     /// If no entry is flagged, the printed text is a document with the same data, and a second call changes nothing.
     ///
     /// If an allocation fails, returns an error. The data of the document is then unchanged, and some of it may be
-    /// formatted. It still prints a text with the same data if it did before, and if each entry that keeps its form
-    /// reads back in it.
+    /// formatted. If each piece of the text that it printed was read as that piece, as after `parse`, and if each entry
+    /// that keeps its form reads back in it, that is still so.
     ///
     /// ```
     /// let mut document = KdlDocument::parse(alloc, "a  0x10 // one\n/- b 2;c /* two */ {  }")?;
@@ -74,7 +74,7 @@ impl KdlDocument {
     /// without comments, and with all entries flagged or not.
     ///
     /// Returns an error if an allocation fails, or if the level of a child would exceed `usize::MAX`. It leaves what an
-    /// error of `autoformat` does; the document still prints a text with the same data if the indent is spaces.
+    /// error of `autoformat` does, but the text need not read back if the indent is not spaces.
     ///
     /// ```
     /// let config = FormatConfig::builder().indent("\t").build();

@@ -45,8 +45,8 @@ impl KdlNode {
     /// If no entry is flagged, the node prints a document of that one node, and a second call changes nothing.
     ///
     /// If an allocation fails, returns an error. The data of the node is then unchanged, and some of it may be
-    /// formatted. It still prints a text with the same data if it did before, and if each entry that keeps its form
-    /// reads back in it.
+    /// formatted. If each piece of the text that it printed was read as that piece, as after `parse`, and if each entry
+    /// that keeps its form reads back in it, that is still so.
     ///
     /// ```
     /// let mut node = KdlNode::parse(alloc, "\"a\"  /* b */ 0x10 // c")?;
@@ -81,7 +81,7 @@ impl KdlNode {
     /// level, with or without comments, and with all entries flagged or not.
     ///
     /// Returns an error if an allocation fails, or if the level of a child would exceed `usize::MAX`. It leaves what an
-    /// error of `autoformat` does; the node still prints a text with the same data if the indent is spaces.
+    /// error of `autoformat` does, but the text need not read back if the indent is not spaces.
     ///
     /// ```
     /// let config = FormatConfig::builder().indent("\t").indent_level(1).build();

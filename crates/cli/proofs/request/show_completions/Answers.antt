@@ -1,4 +1,4 @@
-use Rattle.cli_words.specs.Completions.{IsScript}
+use Rattle.cli_words.specs.Template.{IsScript}
 use Rattle.cli.proofs.RequestSteps.{is_not_shown, is_shown}
 use Rattle.cli.proofs.request.show_completions.Goals as goal
 

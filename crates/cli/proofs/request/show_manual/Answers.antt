@@ -1,4 +1,4 @@
-use Rattle.cli_words.specs.Manual.{IsManual}
+use Rattle.cli_words.specs.Template.{IsManual}
 use Rattle.cli.proofs.RequestSteps.{is_not_shown, is_shown}
 use Rattle.cli.proofs.request.show_manual.Goals as goal
 

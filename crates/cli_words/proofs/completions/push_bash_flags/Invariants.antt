@@ -1,6 +1,0 @@
-use Rattle.std.proofs.Common.{◌≡◌, ◌++◌, flat_map, string_bytes, take}
-use Rattle.cli_words.specs.Completions.{bash_flags}
-use Rattle.cli_words.proofs.completions.push_bash_flags.Given as goal
-
-abbrev pub invariant-loop-word : goal.invariant-loop-word
-invariant-loop-word l = string_bytes l.out ≡ string_bytes l.initial.out ++ flat_map bash_flags (take l.word-index l.words)

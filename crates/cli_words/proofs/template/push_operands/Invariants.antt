@@ -1,0 +1,6 @@
+use Rattle.std.proofs.Common.{◌≡◌, ◌++◌, flat_map, string_bytes, take}
+use Rattle.cli_words.specs.Template.{operand_part}
+use Rattle.cli_words.proofs.template.push_operands.Given as goal
+
+abbrev pub invariant-loop-operand : goal.invariant-loop-operand
+invariant-loop-operand l = string_bytes l.out ≡ string_bytes l.initial.out ++ flat_map (operand_part l.escapes l.by) (take l.operand-index l.operands)

@@ -1,6 +1,0 @@
-use Rattle.std.proofs.Common.{◌≡◌, ◌++◌, flat_map, string_bytes, take}
-use Rattle.cli_words.specs.Pieces.{spaced}
-use Rattle.cli_words.proofs.text.push_spaced.Given as goal
-
-abbrev pub invariant-loop-text : goal.invariant-loop-text
-invariant-loop-text l = string_bytes l.out ≡ string_bytes l.initial.out ++ flat_map spaced (take l.text-index l.texts)
