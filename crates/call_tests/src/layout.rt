@@ -51,6 +51,7 @@ fn configurations(rt: HostRuntime) {
         keep_spelling: false,
         keep_inner_comments: false,
         keep_one_line: false,
+        compact_empty: false,
     };
     equal(&rt, &Layout::new(), &layout);
     equal(&rt, &Layout::default(), &layout);

@@ -25,7 +25,7 @@ pub record IsFormatted (s : Settings) (text out : Text) : Type 0 where
   pub before : Document
   pub after : Document
   pub laid : LaidDocument before text
-  pub formatted : IsLaidDocument (layout_keeping s) (not s.expand) s.blank_lines (layout_settings s) 0 before after
+  pub formatted : IsLaidDocument (layout_keeping s) (not s.expand) true s.blank_lines (layout_settings s) 0 before after
   pub prints : out ≡ print_document after 0
   pub comments : AllCommentsStay before out
-  pub again : (y : Document) → IsLaidDocument (layout_keeping s) (not s.expand) s.blank_lines (layout_settings s) 0 after y → y ≡ after
+  pub again : (y : Document) → IsLaidDocument (layout_keeping s) (not s.expand) true s.blank_lines (layout_settings s) 0 after y → y ≡ after

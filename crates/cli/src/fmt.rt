@@ -39,6 +39,7 @@ pub fn formatted(
         keep_spelling: !settings.respell,
         keep_inner_comments: true,
         keep_one_line: !settings.expand,
+        compact_empty: true,
     };
     document.autoformat_layout(&layout)?;
     let out = document.to_string(alloc)?;

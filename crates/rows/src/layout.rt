@@ -134,6 +134,7 @@ fn lay_out_with(
         keep_spelling: case.row.has("keep spelling"),
         keep_inner_comments: case.row.has("keep inner comments"),
         keep_one_line: case.row.has("keep one line"),
+        compact_empty: false,
     };
     if asked.blank_lines.is_some()
         || layout.keep_spelling

@@ -18,7 +18,7 @@ fn laid_out(alloc: Global, text: &str) -> Result<String, ParseFailure>
         → IsDocument (text_of out) x) }
     // It is the text laid out, with at most one blank line between two nodes or comments: its comments are kept, and a
     // second layout changes nothing.
-    ensures laid_out { IfOk result (λ out. IsSpacedOut nothing false 1 (chars text.now) (text_of out)) }
+    ensures laid_out { IfOk result (λ out. IsSpacedOut nothing false false 1 (chars text.now) (text_of out)) }
     // A refused text is not a document, and the error has its faults.
     ensures refused { IsSyntax result → (x : Nodes) → IsDocument (chars text.now) x → ⊥ }
     ensures told { TellsOnSyntax text.now result }

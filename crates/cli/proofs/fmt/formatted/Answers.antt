@@ -30,8 +30,8 @@ returns-clause-laid_out c =
     let none = c.in_ok-document.ensures.keeps_none in
     let spaces : IndentsBySpaces (layout_settings s) = indents_by_spaces s.indent in
     let comments = c.in_ok-autoformat_layout.ensures.comments (or_true (not s.respell)) no (subst IndentsBySpaces (sym is) spaces) keep none in
-    let spaced : IsLaidDocument (layout_keeping s) (not s.expand) s.blank_lines (layout_settings s) 0 (document_tree d) (document_tree e) =
-    subst (λ (x : Settings). IsLaidDocument (layout_keeping s) (not s.expand) s.blank_lines x x.indent_level (document_tree d) (document_tree e)) is c.in_ok-autoformat_layout.ensures.formatted in
+    let spaced : IsLaidDocument (layout_keeping s) (not s.expand) true s.blank_lines (layout_settings s) 0 (document_tree d) (document_tree e) =
+    subst (λ (x : Settings). IsLaidDocument (layout_keeping s) (not s.expand) true s.blank_lines x x.indent_level (document_tree d) (document_tree e)) is c.in_ok-autoformat_layout.ensures.formatted in
     let prints = c.printed_reads_once.ensures.text e c.in_ok-out.out c.in_ok-out.ensures.ok in
     record {
       before = document_tree d;
@@ -40,5 +40,5 @@ returns-clause-laid_out c =
       formatted = spaced;
       prints = prints;
       comments = subst (AllCommentsStay (document_tree d)) (sym prints) comments;
-      again = λ y g. c.second_spaced_layout.ensures.document (layout_keeping s) (not s.expand) s.blank_lines (layout_settings s) 0 (document_tree d) (document_tree e) y spaces refl none spaced g;
+      again = λ y g. c.second_spaced_layout.ensures.document (layout_keeping s) (not s.expand) true s.blank_lines (layout_settings s) 0 (document_tree d) (document_tree e) y spaces refl none spaced g;
     }

@@ -23,9 +23,11 @@ returns-clause-laid_out c =
     let no : c.new.result.config.no_comments ≡ false = ap (λ (s : Settings). s.no_comments) is in
     let none = c.in_ok-document.ensures.keeps_none in
     let off = c.new.ensures.one_line in
+    let full = c.new.ensures.compact_empty in
     let comments = (c.in_ok-autoformat_layout.ensures.rereads (subst IndentsBySpaces (sym is) c.defaults_indent_by_spaces.ensures)).comments keep no none in
     let l = record c.new.result { blank_lines = 1 } in
     let out = c.in_ok-to_string.field-0 in
-    subst (λ (k : Keeping). IsSpacedOut k false 1 (chars c.args.text.now) (text_of out)) c.new.ensures.keeping
-    (subst (λ (k : Bool). IsSpacedOut (keeping l) k 1 (chars c.args.text.now) (text_of out)) off
-    (c.texts_are_spaced_out.ensures (chars c.args.text.now) l d e out is c.in_ok-document.ensures.laid none c.in_ok-autoformat_layout.ensures.formatted comments c.in_ok-to_string.ensures.ok))
+    subst (λ (k : Keeping). IsSpacedOut k false false 1 (chars c.args.text.now) (text_of out)) c.new.ensures.keeping
+    (subst (λ (k : Bool). IsSpacedOut (keeping l) k false 1 (chars c.args.text.now) (text_of out)) off
+    (subst (λ (k : Bool). IsSpacedOut (keeping l) l.keep_one_line k 1 (chars c.args.text.now) (text_of out)) full
+    (c.texts_are_spaced_out.ensures (chars c.args.text.now) l d e out is c.in_ok-document.ensures.laid none c.in_ok-autoformat_layout.ensures.formatted comments c.in_ok-to_string.ensures.ok)))
