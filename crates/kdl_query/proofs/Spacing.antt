@@ -1,6 +1,6 @@
 -- The spaces of a query, from what the readers of comments and spaces return.
 use Rattle.std.proofs.Common.{◌≡◌, ◌⊎◌, inl, inr, ℕ, ◌<◌, Bool, [], ◌∷◌, true, false, length, refl, sym, ap, ◌∙◌, subst}
-use Rattle.std.specs.Prelude.{Some, None}
+use Rattle.std.specs.Prelude.{Some}
 use Rattle.kdl_text.specs.Chars.{Text, Newline, Space, Star, begins_two, is_space}
 use Rattle.kdl_text.specs.Chars.Space.{space as space_char}
 use Rattle.kdl_text.specs.Internal.Here.{Here, first, looked, tail}
@@ -73,10 +73,6 @@ space_here (d ∷ s) t c e h k = let m : is_space d ≡ true = (let n : d ≡ c 
 pub other_char : (s t : Text) (c : ℕ) → first s ≡ Some c → (c ≡ 47 → ⊥) → is_space c ≡ false → Reads Ws false s t
 other_char s t c e f h r (ws_space (space_char x)) = cc
 other_char s t c e f h r (ws_comment (BlockComment.block b)) = f cc
-
-pub other_end : (s t : Text) → first s ≡ None → Reads Ws false s t
-other_end s t e r (ws_space (space_char x)) = cc
-other_end s t e r (ws_comment (BlockComment.block b)) = cc
 
 -- a backslash
 pub escline_here : (u m r : Text) → Longest Ws u m → Newline m r → Reads QuerySpace true (92 ∷ u) r
