@@ -1,0 +1,1 @@
+use Rattle.kdl_path.proofs.cursor.Cursor.remove.Goals as goal

@@ -1,0 +1,1 @@
+use Rattle.kdl_path.proofs.cursor.Cursor.turn.Goals as goal

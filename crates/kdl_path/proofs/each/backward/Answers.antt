@@ -1,0 +1,1 @@
+use Rattle.kdl_path.proofs.each.backward.Goals as goal
