@@ -1,5 +1,5 @@
 -- A document that is open along a path: what is changed in the innermost block is changed in the whole.
-use Rattle.std.proofs.Common.{◌≡◌, ◌<◌, ◌≤◌, ◌+◌, ◌-◌, ℕ, zero, suc, List, [], ◌∷◌, ◌++◌, Option, None, Some, length, map, option_and_then, option_map, slice_get, unwrap_or, refl, ap, ◌∙◌, sym, subst, arith, append_assoc, append-nil, drop, min, reverse, take, Vec, Global}
+use Rattle.std.proofs.Common.{◌≡◌, ◌<◌, ◌≤◌, ◌+◌, ◌-◌, ℕ, zero, suc, List, [], ◌∷◌, ◌++◌, Option, None, Some, length, map, option_and_then, option_map, slice_get, unwrap_or, refl, ap, ◌∙◌, sym, subst, arith, append_assoc, append-nil, drop, reverse, take, Vec, Global}
 use Rattle.std.proofs.lemmas.List.{map-append, reverse-append}
 use Rattle.std.proofs.lemmas.Option.{slice_get-map}
 use Rattle.std.specs.List.{remove}
@@ -29,12 +29,10 @@ use Rattle.c_calls.proofs.OpenSteps.{block_back}
 use Rattle.c_calls.proofs.TreeSteps.{at_twice}
 use Rattle.kdl_query.proofs.Levels.{front_kept}
 use Rattle.kdl_query.specs.Selects.{Path, node_at, node_below}
-use Rattle.kdl_query.specs.Turns.{paths_from, turned}
-use Rattle.kdl_query.specs.declared.find.Turn.{Turn}
 use Rattle.kdl_path.specs.Edits.{with_block, with_nth}
 use Rattle.kdl_path.specs.Internal.Cursor.{Becomes, IsMoved, indices, path_of, plugged, rejoined, whole, with_after}
 use Rattle.kdl_path.specs.Internal.Laid.{IsLaid}
-use Rattle.kdl_path.specs.Internal.OnEach.{Edit, edited, paths_back}
+use Rattle.kdl_path.specs.Internal.OnEach.{Edit, edited}
 use Rattle.kdl_path.specs.declared.cursor.Cursor.{Cursor}
 use Rattle.kdl_path.specs.declared.cursor.above.Above.{Above}
 use Rattle.kdl_path.specs.declared.cursor.block.Block.{Block}
@@ -238,9 +236,6 @@ laid o s ns n m ms h f = record {
     in_block : BlockReads (document o s (listed_nodes (ns ++ n ∷ ms))) → BlockReads (document o s (listed_nodes (ns ++ m ∷ ms)))
     in_block (block c) = block (laid_content _ _ _ ns n m ms f c)
 
-pub unchanged : (d e : Document) → e ≡ d → Becomes (λ x. x) d e
-unchanged d e h = record { says = ap document_data h; block = λ x. subst BlockReads (sym h) x; whole = λ x. subst DocumentReads (sym h) x }
-
 pub becomes_then : (f g : data'.Nodes → data'.Nodes) (d e b : Document) → Becomes f d e → Becomes g e b → Becomes (λ x. g (f x)) d b
 becomes_then f g d e b x y = record { says = y.says ∙ ap g x.says; block = λ r. y.block (x.block r); whole = λ r. y.whole (x.whole r) }
 
@@ -263,9 +258,6 @@ trees_as b c ns f s =
 
 pub moved : (b c : Block) → IsMoved b c → rejoined c ≡ rejoined b
 moved b c h = rejoined_tree c ∙ trees_as b c (all_nodes c) h.format h.span ∙ ap (block_tree b) h.nodes ∙ sym (rejoined_tree b)
-
-pub not_moved : (b : Block) → IsMoved b b
-not_moved b = record { nodes = refl; format = refl; span = refl }
 
 pub moved_then : (b c d : Block) → IsMoved b c → IsMoved c d → IsMoved b d
 moved_then b c d x y = record { nodes = y.nodes ∙ x.nodes; format = y.format ∙ x.format; span = y.span ∙ x.span }
@@ -414,12 +406,6 @@ next_laid b c n m ms h k same l =
     (laid f s (map node_tree xs) (node_tree n) (node_tree m) (map node_tree (reverse ms)) l.says l.reads))
 
 -- a path of a cursor
-indices_last : (above : List Above) (a : Above) → indices (above ++ a ∷ []) ≡ indices above ++ a.index ∷ []
-indices_last above a = map-append (λ (b : Above). b.index) above (a ∷ [])
-
-pub one_above : (now was : List Above) (a : Above) → now ≡ was ++ a ∷ [] → indices now ≡ indices was ++ a.index ∷ []
-one_above now was a h = ap indices h ∙ indices_last was a
-
 pub whole_above : (now was : List Above) (a : Above) (c : Document) → now ≡ was ++ a ∷ [] → plugged now c ≡ plugged was (with_kids_at a.index (children c) (rejoined a.block))
 whole_above now was a c h = ap (λ l. plugged l c) h ∙ plugged_last was a c
 
@@ -440,87 +426,6 @@ found_below p above c i j rest h k =
 pub up_path : (now was : Path) (o : Option ℕ) → was ≡ now ++ option_to_list o → (o ≡ None → now ≡ []) → now ++ [] ≡ take (length (was ++ []) - 1) (was ++ [])
 up_path now was None h f = let e = f refl in let k : was ≡ [] = h ∙ append-nil now ∙ e in ap (λ l. l ++ []) e ∙ ap (λ l. take (length (l ++ []) - 1) (l ++ [])) (sym k)
 up_path now was (Some i) h f = append-nil now ∙ sym (front_kept now i (was ++ []) (append-nil was ∙ h))
-
-pub last_off : (p q : Path) (i : ℕ) → p ≡ q ++ i ∷ [] → q ++ [] ≡ take (length p - 1) p
-last_off p q i h = append-nil q ∙ sym (front_kept q i p h)
-
--- the first indices are kept
-pub kept_by_up : (kept : ℕ) (p q : Path) → kept < length p → q ≡ take (length p - 1) p → (take kept q ≡ take kept p) × (length q < length p)
-kept_by_up kept p q h e = (ap (take kept) e ∙ twice kept (length p - 1) p (omega (arith, h)), subst (λ (l : Path). length l < length p) (sym e) (shorter_taken (length p - 1) p (omega (arith, h))))
-  where
-    twice : (k m : ℕ) (xs : Path) → k ≤ m → take k (take m xs) ≡ take k xs
-    twice zero m xs l = refl
-    twice (suc k) zero xs l = absurd (omega (arith, l))
-    twice (suc k) (suc m) [] l = refl
-    twice (suc k) (suc m) (x ∷ xs) l = ap (λ z. x ∷ z) (twice k m xs (omega (arith, l)))
-
-    shorter_taken : (m : ℕ) (xs : Path) → m < length xs → length (take m xs) < length xs
-    shorter_taken m [] l = absurd (omega (arith, l))
-    shorter_taken zero (x ∷ xs) l = omega arith
-    shorter_taken (suc m) (x ∷ xs) l = let k = shorter_taken m xs (omega (arith, l)) in omega (arith, k)
-
-pub all_kept : (kept : ℕ) (p : Path) → (kept < length p → ⊥) → take kept p ≡ p
-all_kept zero [] h = refl
-all_kept (suc kept) [] h = refl
-all_kept zero (i ∷ p) h = absurd (h (omega arith))
-all_kept (suc kept) (i ∷ p) h = ap (λ l. i ∷ l) (all_kept kept p (λ l. h (omega (arith, l))))
-
--- the next index of a turn
-pub goes_down : (p q r rest more : Path) (i : ℕ) → q ≡ p ++ i ∷ [] → rest ≡ i ∷ more → p ++ rest ≡ r → q ++ more ≡ r
-goes_down p q r rest more i h e k = ap (λ l. l ++ more) h ∙ append_assoc p (i ∷ []) more ∙ ap (λ l. p ++ l) (sym e) ∙ k
-
--- the turns back
-kept_all : (k : ℕ) (p : Path) → take k p ++ drop k p ≡ p
-kept_all zero p = refl
-kept_all (suc k) [] = refl
-kept_all (suc k) (i ∷ p) = ap (λ l. i ∷ l) (kept_all k p)
-
-kept_first : (k : ℕ) (p r : Path) → k ≤ length p → take k (take k p ++ r) ≡ take k p
-kept_first zero p r h = refl
-kept_first (suc k) [] r h = absurd (omega (arith, h))
-kept_first (suc k) (i ∷ p) r h = ap (λ l. i ∷ l) (kept_first k p r (omega (arith, h)))
-
-kept_least : (k m : ℕ) (p : Path) → m ≡ min k (length p) → take m p ≡ take k p
-kept_least k m p h = ap (λ z. take z p) h ∙ go k p
-  where
-    less : (k : ℕ) (p : Path) → min (suc k) (suc (length p)) ≡ suc (min k (length p))
-    less k p = omega arith
-
-    go : (k : ℕ) (p : Path) → take (min k (length p)) p ≡ take k p
-    go zero p = let e : min 0 (length p) ≡ 0 = omega arith in ap (λ z. take z p) e
-    go (suc k) [] = let e : min (suc k) 0 ≡ 0 = omega arith in ap (λ (z : ℕ). take {A = ℕ} z []) e
-    go (suc k) (i ∷ p) = ap (λ z. take z (i ∷ p)) (less k p) ∙ ap (λ l. i ∷ l) (go k p)
-
--- the paths to p and before it, by the turns back from it
-abbrev pub paths_to : Path → List Turn → List Path
-paths_to p back = reverse (paths_from p (reverse back)) ++ p ∷ []
-
-pub one_back : (p q : Path) (back now : List Turn) (t u : Turn) (more : List Path) → u.kept ≡ min t.kept (length p) → u.rest.items ≡ drop u.kept p → q ≡ take u.kept p ++ t.rest.items → now ≡ back ++ u ∷ [] → (turned p t ≡ q) × (paths_to q now ≡ paths_to p back ++ q ∷ [])
-one_back p q back now t u more k r e n =
-    let again : turned q u ≡ p = ap (λ l. take u.kept l ++ u.rest.items) e ∙ ap (λ l. l ++ u.rest.items) (kept_first u.kept p t.rest.items (subst (λ (z : ℕ). z ≤ length p) (sym k) (omega arith))) ∙ ap (λ l. take u.kept p ++ l) r ∙ kept_all u.kept p in (
-      ap (λ l. l ++ t.rest.items) (sym (kept_least t.kept u.kept p k)) ∙ sym e,
-      ap (λ l. reverse l ++ q ∷ []) (ap (λ l. paths_from q (reverse l)) n ∙ ap (paths_from q) (reverse-append back (u ∷ [])) ∙ ap (λ l. l ∷ paths_from l (reverse back)) again) ∙ ap (λ l. l ++ q ∷ []) (reverse-append (p ∷ []) (paths_from p (reverse back))),
-    )
-
-nothing_taken : (k : ℕ) → take {A = ℕ} k [] ≡ []
-nothing_taken zero = refl
-nothing_taken (suc k) = refl
-
-pub back_begins : (start : Turn) (others : List Turn) (p : Path) (back : List Turn) → p ≡ start.rest.items → back ≡ [] → paths_to p back ++ paths_from p others ≡ paths_from [] (start ∷ others)
-back_begins start others p back h e =
-    ap (λ l. paths_to p l ++ paths_from p others) e ∙ ap (λ l. l ∷ paths_from l others) (h ∙ ap (λ l. l ++ start.rest.items) (sym (nothing_taken start.kept)))
-
-pub back_goes : (all : List Path) (p q : Path) (back now : List Turn) (t u : Turn) (rest more : List Turn) → u.kept ≡ min t.kept (length p) → u.rest.items ≡ drop u.kept p → q ≡ take u.kept p ++ t.rest.items → now ≡ back ++ u ∷ [] → rest ≡ t ∷ more
-    → paths_to p back ++ paths_from p rest ≡ all → paths_to q now ++ paths_from q more ≡ all
-back_goes all p q back now t u rest more k r e n s h =
-    let x = one_back p q back now t u [] k r e n in
-    ap (λ l. l ++ paths_from q more) x.1 ∙ append_assoc (paths_to p back) (q ∷ []) (paths_from q more)
-    ∙ ap (λ l. paths_to p back ++ (l ∷ paths_from l more)) (sym x.0) ∙ ap (λ l. paths_to p back ++ paths_from p l) (sym s) ∙ h
-
-pub back_ends : (p : Path) (back now : List Turn) (u : Turn) → u.kept ≡ 0 → u.rest.items ≡ p → now ≡ back ++ u ∷ [] → paths_back now ≡ paths_to p back
-back_ends p back now u k r n =
-    let again : turned [] u ≡ p = ap (λ z. take z [] ++ u.rest.items) k ∙ r in
-    ap reverse (ap (λ l. paths_from [] (reverse l)) n ∙ ap (paths_from []) (reverse-append back (u ∷ [])) ∙ ap (λ l. l ∷ paths_from l (reverse back)) again) ∙ reverse-append (p ∷ []) (paths_from p (reverse back))
 
 -- no node is apart
 pub none_apart : (b : Block) → b.after.items ≡ [] → rejoined b ≡ document_tree b.document

@@ -137,9 +137,6 @@ set_next t v given p ps d e f b done one =
       there = contains_each (λ q. IsSome (value_at t (document_data d) q)) p ps (subst (λ (o : Option Value). IsSome o) same one.there) done.there;
     }
 
-pub removed_none : (t : Target) (d : Document) → DocumentReads d → IsRemovedOnEach [] t d d
-removed_none t d r = record { reads = r; says = refl; there = λ p c. absurd (contains_nothing p c) }
-
 removed_next : (t : Target) (p : Path) (ps : List Path) (d e f : Document) → AllByRecursion (IsBefore p) ps → IsRemovedOnEach ps t d e → IsRemovedOnEach (p ∷ []) t e f → IsRemovedOnEach (p ∷ ps) t d f
 removed_next t p ps d e f b done one = record {
   reads = one.reads;
@@ -200,9 +197,6 @@ pub record IsRemovedSo (all rest : List Path) (t : Target) (d e : Document) : Ty
   pub done : List Path
   pub paths : all ≡ rest ++ done
   pub removed : IsRemovedOnEach done t d e
-
-pub removal_begins : (all rest : List Path) (t : Target) (d : Document) → all ≡ rest → DocumentReads d → IsRemovedSo all rest t d d
-removal_begins all rest t d h r = record { done = []; paths = h ∙ sym (append-nil rest); removed = removed_none t d r }
 
 pub removal_goes : (all rest before : List Path) (p : Path) (t : Target) (d e f : Document) → AllPairs IsBefore all → rest ≡ before ++ p ∷ [] → IsRemovedSo all rest t d e → IsRemovedOnEach (p ∷ []) t e f → IsRemovedSo all before t d f
 removal_goes all rest before p t d e f o k so one =

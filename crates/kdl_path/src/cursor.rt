@@ -37,7 +37,7 @@ pub(crate) struct Cursor {
 
 impl Cursor {
     /// Opens the document at the empty path.
-    pub(crate) fn new(alloc: Global, document: KdlDocument) -> Cursor
+    pub(crate) fn over(alloc: Global, document: KdlDocument) -> Cursor
         ensures whole { whole result ≡ document_tree document }
         ensures path { path_of result ≡ [] }
     {
@@ -54,7 +54,11 @@ impl Cursor {
     {
         let mut cursor = self;
         while cursor.leave()?.is_some() {}
-        let Cursor { above, block, last: _ } = cursor;
+        let Cursor {
+            above,
+            block,
+            last: _,
+        } = cursor;
         drop(above);
         block.close()
     }

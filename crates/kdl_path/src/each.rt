@@ -95,11 +95,7 @@ pub fn remove_each(
 
 /// Returns the turns to the paths that the query selects, from the last path to the first, so that no edit moves a node that
 /// is edited later. They are taken from the end of the list. Fails with `Missing` if the query selects nothing.
-fn selected(
-    alloc: Global,
-    document: &KdlDocument,
-    query: &Query,
-) -> Result<Vec<Turn>, EditFailure>
+fn selected(alloc: Global, document: &KdlDocument, query: &Query) -> Result<Vec<Turn>, EditFailure>
     ensures selection { IfOk result (λ ts. IsSelection (document_says document.now)
         (query_says query.now) (paths_back ts.items)) }
     ensures some { IfOk result (λ ts. paths_back ts.items ≡ [] → ⊥) }
@@ -150,7 +146,7 @@ fn set_at_paths(
     ensures missing { IfErr result (λ e. MissesIf ((p : Path) × Contains (paths_back turns.items) p
         × (value_at target.now (document_says document) p ≡ None)) e) }
 {
-    let mut cursor = Cursor::new(alloc, document);
+    let mut cursor = Cursor::over(alloc, document);
     let mut turns = turns;
     while let Some(turn) = turns.pop() {
         cursor.turn(alloc, &turn)?;
@@ -215,7 +211,7 @@ fn remove_at_paths(
     ensures missing { IfErr result (λ e. MissesIf ((p : Path) × Contains (paths_back turns.items) p
         × (named_node target.now (document_says document) p ≡ None)) e) }
 {
-    let mut cursor = Cursor::new(alloc, document);
+    let mut cursor = Cursor::over(alloc, document);
     let mut turns = turns;
     while let Some(turn) = turns.pop() {
         cursor.turn(alloc, &turn)?;
@@ -225,11 +221,7 @@ fn remove_at_paths(
 }
 
 /// Removes the node at the path of the cursor, or the entry of it that the target names.
-fn remove_target(
-    alloc: Global,
-    cursor: &mut Cursor,
-    target: &Target,
-) -> Result<(), EditFailure>
+fn remove_target(alloc: Global, cursor: &mut Cursor, target: &Target) -> Result<(), EditFailure>
     requires reads { DocumentReads (whole cursor.old) }
     ensures path { OnOk result (path_of cursor.new ≡ path_of cursor.old) }
     ensures removed { OnOk result (IsRemovedOnEach (path_of cursor.old ∷ []) target.now

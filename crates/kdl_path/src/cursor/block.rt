@@ -5,7 +5,7 @@ ghost use Rattle.kdl_grammar.specs.Tree.{document_data};
 ghost use Rattle.kdl_path.specs.Internal.Cursor.{Becomes, IsMoved, rejoined};
 ghost use Rattle.kdl_path.specs.Internal.Failing.{MissesIf};
 ghost use Rattle.std.specs.Option.{option_to_list};
-ghost use Rattle.std.specs.Prelude.{◌≡◌, ◌<◌, ◌≤◌, ◌+◌, ◌++◌, ◌∷◌, [], IfErr, IfOk, MatchBool, None, OnOk, length, slice_get, suc};
+ghost use Rattle.std.specs.Prelude.{◌≡◌, ◌<◌, ◌+◌, ◌++◌, ◌∷◌, [], IfErr, IfOk, MatchBool, None, OnOk, length, slice_get, suc};
 
 use crate::failure::{EditFailure, Missing};
 use crate::laid::begin_line;

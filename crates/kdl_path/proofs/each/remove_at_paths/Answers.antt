@@ -20,7 +20,7 @@ returns-in_err-turn-clause-missing c =
     let taken : c.loop-turn.turns.items ≡ c.pop.new.self.items ++ c.in-Some.turn ∷ [] = search rules in
     let miss : node_at p (document_data (whole o)) ≡ None → (q : Path) × Contains all q × (named_node t (document_says c.args.document) q ≡ None) =
     λ h. removal_misses all (reverse (paths_from (path_of o) (reverse c.loop-turn.turns.items))) (reverse (paths_from p (reverse c.pop.new.self.items))) p t (document_tree c.args.document) (whole o) c.requires.ordered
-        (split_back c.loop-turn.turns.items c.pop.new.self.items c.in-Some.turn (path_of o) taken) c.loop-turn.invariant (ap (option_and_then (with_target t)) h) in
+    (split_back c.loop-turn.turns.items c.pop.new.self.items c.in-Some.turn (path_of o) taken) c.loop-turn.invariant (ap (option_and_then (with_target t)) h) in
     err_is c.from_residual.result _ _ c.from_residual.ensures.1 (misses _ miss c.in_err-turn.ensures.missing)
 
 pub returns-in_err-remove_target-clause-missing : goal.returns-in_err-remove_target-clause-missing
@@ -33,8 +33,8 @@ returns-in_err-remove_target-clause-missing c =
     let taken : c.loop-turn.turns.items ≡ c.pop.new.self.items ++ c.in-Some.turn ∷ [] = search rules in
     let miss : named_node t (document_data (whole n)) (path_of n) ≡ None → (q : Path) × Contains all q × (named_node t (document_says c.args.document) q ≡ None) =
     λ h. removal_misses all (reverse (paths_from (path_of o) (reverse c.loop-turn.turns.items))) (reverse (paths_from p (reverse c.pop.new.self.items))) p t (document_tree c.args.document) (whole o) c.requires.ordered
-        (split_back c.loop-turn.turns.items c.pop.new.self.items c.in-Some.turn (path_of o) taken) c.loop-turn.invariant
-        (ap (λ q. named_node t (document_data (whole o)) q) (sym c.in_ok-turn.ensures.path) ∙ ap (λ (x : Document). named_node t (document_data x) (path_of n)) (sym c.in_ok-turn.ensures.whole) ∙ h) in
+    (split_back c.loop-turn.turns.items c.pop.new.self.items c.in-Some.turn (path_of o) taken) c.loop-turn.invariant
+    (ap (λ q. named_node t (document_data (whole o)) q) (sym c.in_ok-turn.ensures.path) ∙ ap (λ (x : Document). named_node t (document_data x) (path_of n)) (sym c.in_ok-turn.ensures.whole) ∙ h) in
     err_is c.from_residual-in_err-remove_target.result _ _ c.from_residual-in_err-remove_target.ensures.1 (misses _ miss c.in_err-remove_target.ensures.missing)
 
 pub loop-turn-preserved : goal.loop-turn-preserved

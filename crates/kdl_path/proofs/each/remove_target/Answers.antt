@@ -1,4 +1,4 @@
-use Rattle.std.proofs.Common.{rules, ◌≡◌, ◌<◌, [], ◌∷◌, Option, None, Some, length, slice_get, ap, ◌∙◌, refl, sym, subst, ℕ}
+use Rattle.std.proofs.Common.{rules, ◌≡◌, [], ◌∷◌, Option, None, Some, length, slice_get, ap, ◌∙◌, refl, sym, subst, ℕ}
 use Rattle.std.proofs.lemmas.Option.{slice_get_read}
 use Rattle.kdl.specs.Words.{document_data, entries_of, node_tree, nodes_of}
 use Rattle.kdl.specs.declared.node.KdlNode.{KdlNode}
@@ -32,7 +32,7 @@ returns-in_err-at-clause-missing c =
     let there : slice_get ns i ≡ Some n = slice_get_read ns (length ns) i n refl (search rules) (search rules) in
     let none : (t ≡ Node → ⊥) × (place_of_target t (entries_of n) ≡ None) → named_node t (document_data (whole was)) (path_of was) ≡ None =
     λ k. ap (λ p. named_node t (document_data (whole was)) p) (sym at.path) ∙ ap (λ (x : Document). named_node t (document_data x) (path_of o)) (sym at.whole)
-        ∙ name_missing_at t (path_of o) (document_data (whole o)) n (node_here o i n at.last at.there there) k in
+    ∙ name_missing_at t (path_of o) (document_data (whole o)) n (node_here o i n at.last at.there there) k in
     err_is c.from_residual-in_err-at.result _ _ c.from_residual-in_err-at.ensures.1 (misses _ none c.in_err-at.ensures.missing)
 
 pub returns-in_ok-change_in-in-Some-clause-removed : goal.returns-in_ok-change_in-in-Some-clause-removed

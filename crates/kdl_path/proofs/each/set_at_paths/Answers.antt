@@ -15,12 +15,12 @@ use Rattle.kdl_path.proofs.each.set_at_paths.Goals as goal
 pub loop-turn-init : goal.loop-turn-init
 loop-turn-init c =
     let v = c.args.value.now in
-    let o = c.new-cursor.result in
+    let o = c.over-cursor.result in
     let ts = c.args.turns.items in
     let d = document_tree c.args.document in
     let rest = reverse (paths_from (path_of o) (reverse ts)) in
-    subst (λ (e : Document). IsSetSo (paths_back ts) rest c.args.target.now (value_tree v.value) (text_of v.spelling) d e) (sym c.new-cursor.ensures.whole)
-    (set_begins (paths_back ts) rest c.args.target.now (value_tree v.value) (text_of v.spelling) d (ap (λ p. reverse (paths_from p (reverse ts))) (sym c.new-cursor.ensures.path)) c.requires.reads)
+    subst (λ (e : Document). IsSetSo (paths_back ts) rest c.args.target.now (value_tree v.value) (text_of v.spelling) d e) (sym c.over-cursor.ensures.whole)
+    (set_begins (paths_back ts) rest c.args.target.now (value_tree v.value) (text_of v.spelling) d (ap (λ p. reverse (paths_from p (reverse ts))) (sym c.over-cursor.ensures.path)) c.requires.reads)
 
 pub returns-in_err-turn-clause-missing : goal.returns-in_err-turn-clause-missing
 returns-in_err-turn-clause-missing c =
@@ -32,7 +32,7 @@ returns-in_err-turn-clause-missing c =
     let taken : c.loop-turn.turns.items ≡ c.pop.new.self.items ++ c.in-Some.turn ∷ [] = search rules in
     let miss : node_at p (document_data (whole o)) ≡ None → (q : Path) × Contains all q × (value_at t (document_says c.args.document) q ≡ None) =
     λ h. set_misses all (reverse (paths_from (path_of o) (reverse c.loop-turn.turns.items))) (reverse (paths_from p (reverse c.pop.new.self.items))) p t (value_tree v.value) (text_of v.spelling) (document_tree c.args.document) (whole o) c.requires.ordered
-        (split_back c.loop-turn.turns.items c.pop.new.self.items c.in-Some.turn (path_of o) taken) c.loop-turn.invariant (ap (option_and_then (value_in t)) h) in
+    (split_back c.loop-turn.turns.items c.pop.new.self.items c.in-Some.turn (path_of o) taken) c.loop-turn.invariant (ap (option_and_then (value_in t)) h) in
     err_is c.from_residual.result _ _ c.from_residual.ensures.1 (misses _ miss c.in_err-turn.ensures.missing)
 
 pub returns-in_err-set_value-clause-missing : goal.returns-in_err-set_value-clause-missing
@@ -46,8 +46,8 @@ returns-in_err-set_value-clause-missing c =
     let taken : c.loop-turn.turns.items ≡ c.pop.new.self.items ++ c.in-Some.turn ∷ [] = search rules in
     let miss : value_at t (document_data (whole n)) (path_of n) ≡ None → (q : Path) × Contains all q × (value_at t (document_says c.args.document) q ≡ None) =
     λ h. set_misses all (reverse (paths_from (path_of o) (reverse c.loop-turn.turns.items))) (reverse (paths_from p (reverse c.pop.new.self.items))) p t (value_tree v.value) (text_of v.spelling) (document_tree c.args.document) (whole o) c.requires.ordered
-        (split_back c.loop-turn.turns.items c.pop.new.self.items c.in-Some.turn (path_of o) taken) c.loop-turn.invariant
-        (ap (λ q. value_at t (document_data (whole o)) q) (sym c.in_ok-turn.ensures.path) ∙ ap (λ (x : Document). value_at t (document_data x) (path_of n)) (sym c.in_ok-turn.ensures.whole) ∙ h) in
+    (split_back c.loop-turn.turns.items c.pop.new.self.items c.in-Some.turn (path_of o) taken) c.loop-turn.invariant
+    (ap (λ q. value_at t (document_data (whole o)) q) (sym c.in_ok-turn.ensures.path) ∙ ap (λ (x : Document). value_at t (document_data x) (path_of n)) (sym c.in_ok-turn.ensures.whole) ∙ h) in
     err_is c.from_residual-in_err-set_value.result _ _ c.from_residual-in_err-set_value.ensures.1 (misses _ miss c.in_err-set_value.ensures.missing)
 
 pub loop-turn-preserved : goal.loop-turn-preserved

@@ -1,9 +1,9 @@
-use Rattle.std.proofs.Common.{rules, ◌≡◌, [], ◌∷◌, Option, None, Some, slice_get, ap, ◌∙◌, refl, sym, subst}
-use Rattle.kdl.specs.Words.{document_data, entries_of, node_says, node_tree, nodes_of, value_tree}
+use Rattle.std.proofs.Common.{rules, ◌≡◌, None, Some, slice_get, ap, ◌∙◌, refl, sym, subst}
+use Rattle.kdl.specs.Words.{document_data, entries_of, node_tree, nodes_of, value_tree}
 use Rattle.kdl.specs.declared.node.KdlNode.{KdlNode}
 use Rattle.kdl_grammar.specs.Tree.{Document}
 use Rattle.kdl_grammar.specs.ReadsBack.{DocumentReads}
-use Rattle.kdl_query.specs.Selects.{Path, node_at}
+use Rattle.kdl_query.specs.Selects.{Path}
 use Rattle.kdl_text.specs.Chars.{Text}
 use Rattle.kdl_value.specs.Data.{Value}
 use Rattle.kdl_value.specs.Tree.{text_of}
@@ -28,7 +28,7 @@ returns-in_err-at-clause-missing c =
     let at = c.in_ok-index.ensures in
     let none : (n : KdlNode) × (slice_get (nodes_of o.block.document) i ≡ Some n) × (place_of_target t (entries_of n) ≡ None) → value_at t (document_data (whole was)) (path_of was) ≡ None =
     λ (n, there, k). ap (λ p. value_at t (document_data (whole was)) p) (sym at.path) ∙ ap (λ (x : Document). value_at t (document_data x) (path_of o)) (sym at.whole)
-        ∙ value_missing_at t (path_of o) (document_data (whole o)) n (node_here o i n at.last at.there there) k in
+    ∙ value_missing_at t (path_of o) (document_data (whole o)) n (node_here o i n at.last at.there there) k in
     err_is c.from_residual-in_err-at.result _ _ c.from_residual-in_err-at.ensures.1 (misses _ none c.in_err-at.ensures.missing)
 
 pub returns-clause-set : goal.returns-clause-set

@@ -1,4 +1,4 @@
-use Rattle.std.proofs.Common.{rules, ◌≡◌, [], None, ap, ◌∙◌, sym}
+use Rattle.std.proofs.Common.{rules, ◌≡◌, None, ap, ◌∙◌, sym}
 use Rattle.kdl_path.specs.Internal.Cursor.{plugged, rejoined}
 use Rattle.kdl_path.proofs.Changes.{if_ok}
 use Rattle.kdl_path.proofs.cursor.Cursor.close.Goals as goal

@@ -1,5 +1,5 @@
-use Rattle.std.proofs.Common.{rules, ◌≡◌, ◌∷◌, None, Some, ap, ◌∙◌, sym, subst}
-use Rattle.kdl.specs.Words.{document_tree, nodes_of}
+use Rattle.std.proofs.Common.{rules, ◌≡◌, ◌∷◌, None, Some, ap, ◌∙◌, sym}
+use Rattle.kdl.specs.Words.{document_tree}
 use Rattle.kdl_grammar.specs.Tree.{document_data, no_children}
 use Rattle.c_calls.specs.Internal.Opened.{block_in}
 use Rattle.kdl_query.specs.Selects.{node_at}

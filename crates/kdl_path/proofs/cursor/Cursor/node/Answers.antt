@@ -1,4 +1,4 @@
-use Rattle.std.proofs.Common.{rules, ◌≡◌, ◌++◌, ◌∷◌, [], None, ap, sym}
+use Rattle.std.proofs.Common.{rules, ◌≡◌, ◌++◌, ◌∷◌, [], None, ap}
 use Rattle.kdl_grammar.specs.Tree.{document_data}
 use Rattle.kdl_query.specs.Selects.{node_at}
 use Rattle.kdl_path.specs.Internal.Cursor.{indices, path_of, rejoined, whole}

@@ -1,4 +1,4 @@
-use Rattle.std.proofs.Common.{rules, ◌≡◌, ◌<◌, ◌-◌, ◌++◌, ◌∷◌, [], refl, slice_index_or, take}
+use Rattle.std.proofs.Common.{rules, ◌≡◌, ◌<◌, ◌-◌, refl, slice_index_or, take}
 use Rattle.std.specs.Vec.{with_item}
 use Rattle.kdl_query.proofs.Levels.{ends_in, set_last}
 use Rattle.kdl_path.specs.declared.cursor.block.Block.{Block}

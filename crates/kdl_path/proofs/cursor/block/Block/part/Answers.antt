@@ -1,4 +1,4 @@
-use Rattle.std.proofs.Common.{rules, ◌≡◌, ◌<◌, ◌++◌, ◌∷◌, [], arith, length, suc, subst, ap, ◌∙◌, sym}
+use Rattle.std.proofs.Common.{rules, ◌≡◌, ◌++◌, ◌∷◌, [], arith, length, ap}
 use Rattle.kdl.specs.Words.{nodes_of}
 use Rattle.kdl_path.proofs.Cursors.{moved_then, one_less, popped}
 use Rattle.kdl_path.proofs.cursor.block.Block.part.Goals as goal

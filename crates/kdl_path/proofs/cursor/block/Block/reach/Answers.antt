@@ -1,5 +1,4 @@
-use Rattle.std.proofs.Common.{rules, ◌≡◌, ◌≤◌, [], ap, length, subst}
-use Rattle.kdl.specs.Words.{nodes_of}
+use Rattle.std.proofs.Common.{rules, ◌≡◌, []}
 use Rattle.kdl_path.proofs.Cursors.{moved, past_all}
 use Rattle.kdl_path.proofs.cursor.block.Block.reach.Goals as goal
 

@@ -1,4 +1,4 @@
-use Rattle.std.proofs.Common.{rules, ◌≡◌, ◌++◌, ◌∷◌, [], arith, length, ap, ◌∙◌, refl, subst, suc}
+use Rattle.std.proofs.Common.{rules, ◌≡◌, ◌++◌, ◌∷◌, [], length, ap, ◌∙◌, refl}
 use Rattle.kdl.specs.Words.{nodes_of}
 use Rattle.kdl_path.proofs.Cursors.{removed_last}
 use Rattle.kdl_path.proofs.cursor.block.Block.remove.Goals as goal

@@ -1,1 +1,0 @@
-use Rattle.kdl_path.proofs.cursor.Cursor.turn.Goals as goal

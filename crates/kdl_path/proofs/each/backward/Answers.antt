@@ -1,1 +1,0 @@
-use Rattle.kdl_path.proofs.each.backward.Goals as goal
