@@ -33,7 +33,7 @@ pub struct Opened {
 }
 
 /// Takes the block out of the node at the index. Returns `None` if there is no such node, or if it has no block.
-fn take_block(document: &mut KdlDocument, index: usize) -> Option<KdlDocument>
+pub fn take_block(document: &mut KdlDocument, index: usize) -> Option<KdlDocument>
     ensures value { result ≡ block_in index document.old }
     ensures tree { document_tree document.new ≡ with_kids_at index no_children
         (document_tree document.old) }
@@ -45,7 +45,7 @@ fn take_block(document: &mut KdlDocument, index: usize) -> Option<KdlDocument>
 }
 
 /// Puts the block into the node at the index. Drops the block if there is no such node.
-fn put_block(document: &mut KdlDocument, index: usize, block: KdlDocument)
+pub fn put_block(document: &mut KdlDocument, index: usize, block: KdlDocument)
     ensures { document_tree document.new
         ≡ with_kids_at index (children (document_tree block)) (document_tree document.old) }
 {

@@ -1,65 +1,23 @@
--- The steps to the node at a path of indices, and the data after an edit there.
-use Rattle.std.proofs.Common.{◌≡◌, ℕ, zero, suc, Bool, true, false, List, [], ◌∷◌, Option, None, Some, option_and_then, option_map, slice_get, string_bytes, refl, ap, ◌∙◌, sym, subst}
+-- The data after an edit at the end of steps, and at a path of indices.
+use Rattle.std.proofs.Common.{◌≡◌, ℕ, zero, suc, List, [], ◌∷◌, Option, None, Some, option_map, slice_get, refl, ap, ◌∙◌, sym, subst}
 use Rattle.std.proofs.lemmas.Option.{none-some, slice_get-map}
-use Rattle.std.proofs.lemmas.Slice.Eq.{bytes_eq-Decides}
-use Rattle.kdl_entry.specs.Fields.{string_of}
 use Rattle.kdl_grammar.specs.Data as data'
-use Rattle.kdl_parts.specs.EntryLists.{nth_place, nth_step}
-use Rattle.kdl.specs.DocumentLookups.{is_node_named, nodes_of}
-use Rattle.kdl.specs.Fields.{block_of, name_of}
-use Rattle.kdl.specs.Iterators.{child_nodes, nodes_in}
-use Rattle.kdl.specs.Nodes.{said_without}
+use Rattle.kdl.specs.DocumentLookups.{nodes_of}
+use Rattle.kdl.specs.Fields.{block_of}
+use Rattle.kdl.specs.Iterators.{nodes_in}
 use Rattle.kdl.specs.Said.{said_children, said_nodes}
 use Rattle.kdl.specs.Tree.{document_says, node_says}
 use Rattle.kdl.specs.declared.document.KdlDocument.{KdlDocument}
 use Rattle.kdl.specs.declared.node.KdlNode.{KdlNode}
 use Rattle.kdl.proofs.Finding.SaidLookups.{children_said, nodes_said}
-use Rattle.kdl_query.specs.Held.{held_at, held_below}
 use Rattle.kdl_query.specs.Selects.{Path}
 use Rattle.kdl_path.specs.Internal.OnEach.{Edit, edited}
-use Rattle.kdl_path.specs.Edits.{changed_at, changed_below, with_block, with_nth, with_there, without_node, without_there}
-use Rattle.kdl_path.specs.Internal.Located.{Leads, place_of_step}
+use Rattle.kdl_path.specs.Edits.{changed_at, changed_below, with_block, with_nth, with_there}
+use Rattle.kdl_path.specs.Internal.Located.{Leads}
 use Rattle.kdl_path.specs.Paths.{step_place}
 use Rattle.kdl_path.specs.declared.path.Step.{Step}
 use Rattle.kdl_path.proofs.Places.{step_said}
 use Rattle.kdl_path.proofs.Removals.{nth_same, there_same}
-
--- an element that passes a test is one of those that do, in their order
-nth_index : {A : Type 0} (p : A → Bool) (xs : List A) (i : ℕ) (x : A) → slice_get xs i ≡ Some x → p x ≡ true → (k : ℕ) × (nth_place p xs k ≡ Some i)
-nth_index p [] i x h t = absurd (none-some x h)
-nth_index p (y ∷ xs) zero x h t = let same : y ≡ x = cc in (0, ap (λ b. nth_step b 0 (nth_place p xs)) (ap p same ∙ t))
-nth_index p (y ∷ xs) (suc i) x h t = let (k, e) = nth_index p xs i x h t in go (p y) k e
-  where
-    go : (b : Bool) (k : ℕ) → nth_place p xs k ≡ Some i → (n : ℕ) × (nth_step b n (nth_place p xs) ≡ Some (suc i))
-    go true k e = (suc k, ap (option_map suc) e)
-    go false k e = (k, ap (option_map suc) e)
-
--- the step to a node: its name, and its index among the nodes of that name
-step_to : (ns : List KdlNode) (i : ℕ) (n : KdlNode) → slice_get ns i ≡ Some n → (s : Step) × (place_of_step s ns ≡ Some i)
-step_to ns i n h =
-    let name = string_of (name_of n) in
-    let (k, e) = nth_index (is_node_named (string_bytes name)) ns i n h ((bytes_eq-Decides (string_bytes name) (string_bytes name)).1 refl) in
-    (record { name = name; index = Some k }, e)
-
-steps_from : (p : Path) (i : ℕ) (ns : List KdlNode) (o : Option KdlNode) (n : KdlNode) → option_and_then (held_below p) (slice_get ns i) ≡ Some n → (ss : List Step) × Leads ss (i ∷ p) ns o n
-steps_from [] i ns o n h = go (slice_get ns i) refl h
-  where
-    go : (c : Option KdlNode) → slice_get ns i ≡ c → option_and_then (held_below []) c ≡ Some n → (ss : List Step) × Leads ss (i ∷ []) ns o n
-    go None e h = absurd (none-some n h)
-    go (Some k) e h = let (s, at) = step_to ns i k e in (s ∷ [], (k, at, e, h))
-steps_from (j ∷ p) i ns o n h = go (slice_get ns i) refl h (λ k r. steps_from p j (child_nodes k) (Some k) n r)
-  where
-    go : (c : Option KdlNode) → slice_get ns i ≡ c → option_and_then (held_below (j ∷ p)) c ≡ Some n → ((k : KdlNode) → held_below (j ∷ p) k ≡ Some n → (ss : List Step) × Leads ss (j ∷ p) (child_nodes k) (Some k) n)
-        → (ss : List Step) × Leads ss (i ∷ j ∷ p) ns o n
-    go None e h f = absurd (none-some n h)
-    go (Some k) e h f =
-        let (s, at) = step_to ns i k e in
-        let (ss, leads) = f k h in
-        (s ∷ ss, (k, at, e, leads))
-
-pub steps_to : (p : Path) (d : KdlDocument) (n : KdlNode) → held_at p d ≡ Some n → (ss : List Step) × Leads ss p (nodes_of d) None n
-steps_to [] d n h = absurd (none-some n h)
-steps_to (i ∷ p) d n h = steps_from p i (nodes_of d) None n h
 
 -- changes that agree where they are made
 pub nth_there : (i : ℕ) (f g : data'.Node → data'.Node) (x : data'.Nodes) (n : data'.Node) → slice_get (said_nodes x) i ≡ Some n → f n ≡ g n → with_nth i f x ≡ with_nth i g x
@@ -106,11 +64,4 @@ pub changed_along : (f : data'.Node → data'.Node) (g : Edit) → ((i : ℕ) (x
 changed_along f g same = along (λ ss x. changed_at ss f x) g (record {
   last = λ s i x h. ap (λ o. with_there o (changed_below [] f) x) h ∙ nth_same i (changed_below [] f) f (λ n. refl) x ∙ sym (same i x);
   more = λ s t ss x. there_same (step_place s (said_nodes x)) (changed_below (t ∷ ss) f) (with_block (λ y. changed_at (t ∷ ss) f y)) (λ n. refl) x;
-})
-
--- the node there left out
-pub without_along : (g : Edit) → ((i : ℕ) (x : data'.Nodes) → g i x ≡ said_without i x) → (ss : List Step) (p : Path) (d : KdlDocument) (n : KdlNode) → Leads ss p (nodes_of d) None n → without_node ss (document_says d) ≡ edited g p (document_says d)
-without_along g same = along (λ ss x. without_node ss x) g (record {
-  last = λ s i x h. ap (λ o. without_there o x) h ∙ sym (same i x);
-  more = λ s t ss x. refl;
 })

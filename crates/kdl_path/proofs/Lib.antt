@@ -32,7 +32,7 @@ pub mod Failing
 pub mod Making
 -- Every node to which steps lead, in memory and in the data.
 pub mod Reached
--- The steps to the node at a path of indices, and the data after an edit there.
+-- The data after an edit at the end of steps, and at a path of indices.
 pub mod Along
 -- What an edit at a path leaves at the paths before it.
 pub mod Apart
@@ -44,3 +44,5 @@ pub mod Selected
 pub mod Examples
 -- A value is set in its own place.
 pub mod Elsewhere
+-- A document that is open along a path: what is changed in the innermost block is changed in the whole.
+pub mod Cursors

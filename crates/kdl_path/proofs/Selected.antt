@@ -1,6 +1,6 @@
 -- A document after an edit at each of some paths.
-use Rattle.std.proofs.Common.{◌≡◌, ◌<◌, inr, ℕ, zero, suc, Bool, true, false, Contains, List, [], ◌∷◌, ◌++◌, get_or, length, Option, None, Some, IsSome, is_some, option_and_then, option_map, refl, ap, ◌∙◌, sym, subst, arith, append_assoc, append-nil, Vec, Global, String, string_bytes, Ok}
-use Rattle.std.proofs.lemmas.List.{map-append}
+use Rattle.std.proofs.Common.{◌≡◌, ◌<◌, inr, ℕ, zero, suc, Bool, true, false, Contains, List, [], ◌∷◌, ◌++◌, get_or, length, Option, None, Some, IsSome, is_some, option_and_then, option_map, refl, ap, ◌∙◌, sym, subst, arith, append_assoc, append-nil, Global, String, reverse, string_bytes, Ok}
+use Rattle.std.proofs.lemmas.List.{reverse-append}
 use Rattle.std.proofs.lemmas.List.Elements.{Contains-append_right}
 use Rattle.std.proofs.lemmas.Option.{none-some}
 use Rattle.std.specs.Str.{chars, encode_utf8_all}
@@ -12,39 +12,39 @@ use Rattle.kdl_value.specs.Data.{Value}
 use Rattle.kdl_value.specs.Tree.{text_of, value_tree}
 use Rattle.kdl_layout.proofs.Texts.{printed_text}
 use Rattle.kdl_grammar.specs.Grammar.{IsDocument}
-use Rattle.c_calls.specs.Changes.{AtNode}
-use Rattle.c_calls.specs.Entries.{IsValueText}
-use Rattle.kdl.specs.DocumentLookups.{nodes_of}
+use Rattle.kdl_grammar.specs.ReadsBack.{DocumentReads}
+use Rattle.kdl_grammar.specs.Tree.{Document, document_data}
+use Rattle.c_calls.specs.Changes.{changed_at}
+use Rattle.c_calls.specs.Entries.{EntryRemoved, IsValueText}
 use Rattle.kdl.specs.Lookups.{entries_of}
-use Rattle.kdl.specs.ReadsBack.{DocumentReadsBack}
 use Rattle.kdl.specs.Said.{said_entries}
-use Rattle.kdl.specs.Tree.{document_prints, document_says, node_says}
+use Rattle.kdl.specs.Tree.{document_prints, document_says, document_tree, node_says, node_tree}
 use Rattle.kdl.specs.declared.document.KdlDocument.{KdlDocument}
 use Rattle.kdl.specs.declared.node.KdlNode.{KdlNode}
-use Rattle.kdl_query.specs.Held.{held_at}
 use Rattle.kdl_query.specs.Selects as query
 use Rattle.kdl_query.specs.Data.{Query}
 use Rattle.kdl_query.specs.Selects.{IsBefore, IsSelected, IsSelection, Path}
-use Rattle.kdl_query.proofs.Holds.{held_says}
+use Rattle.kdl_query.specs.Turns.{paths_from, turned}
+use Rattle.kdl_query.specs.declared.find.Turn.{Turn}
 use Rattle.kdl_path.specs.Each.{AreExchanged, IsRemovedAtEach, IsSetAtEach, RemoveEachFails, SetEachFails, edited_at, named_node, removed, value_at, with_value_at}
-use Rattle.kdl_path.specs.Edits.{entry_place, node_with_value, node_without_entry, with_target, without_target}
+use Rattle.kdl_path.specs.Edits.{entry_place, node_with_value, node_without_entry, with_target}
 use Rattle.kdl_path.specs.Internal.Changed.{IsValueSet}
-use Rattle.kdl_path.specs.Internal.Done.{IsNamed, IsRemovedAt}
+use Rattle.kdl_path.specs.Internal.Done.{IsNamed}
 use Rattle.kdl_path.specs.Internal.Failing.{MissesIf}
-use Rattle.kdl_path.specs.Internal.Located.{Leads, place_of_target}
-use Rattle.kdl_path.specs.Internal.OnEach.{IsRemovedOnEach, IsSetOn, IsSetOnEach, edited, edited_each, paths_of, removing, setting}
+use Rattle.kdl_path.specs.Internal.Located.{place_of_target}
+use Rattle.kdl_path.specs.Internal.OnEach.{IsRemovedOnEach, IsSetOn, IsSetOnEach, edited, edited_each, removing, setting}
 use Rattle.kdl_path.specs.Paths.{value_in}
 use Rattle.kdl_path.specs.declared.failure.EditFailure.{EditFailure}
 use Rattle.kdl_path.specs.declared.failure.EditFailure.TheVariants as edit
-use Rattle.kdl_path.specs.declared.path.Step.{Step}
 use Rattle.kdl_path.specs.declared.path.Target.{Target}
 use Rattle.kdl_path.specs.declared.path.Target.TheVariants.{Node, Argument, Property}
 use Rattle.kdl_path.specs.declared.value.Spelled.{Spelled}
-use Rattle.kdl_path.proofs.Along.{changed_along, steps_to, without_along}
 use Rattle.kdl_path.proofs.Apart.{KeepsBefore, kept_before_each, nth_before, without_before}
 use Rattle.kdl_path.proofs.Edited.{out_says, target_missing, target_named}
 use Rattle.kdl_path.proofs.Everywhere.{Ascends, Replaces, everywhere}
-use Rattle.kdl_path.proofs.Places.{leads_at, value_is_there, value_missing}
+use Rattle.kdl_path.proofs.Places.{value_is_there, value_missing}
+use Rattle.kdl_path.proofs.Removals.{removed_reads, removed_says}
+use Rattle.kdl_path.proofs.Trees.{IsAt, reads_at, says_at}
 use Rattle.kdl_path.proofs.Values.{IsValueDone, exchanged_as, value_done}
 
 -- what a target names depends on the entries alone
@@ -95,13 +95,13 @@ removed_keeps Node i j x h = without_before i j x h
 removed_keeps (Argument k) i j x h = nth_before (node_without_entry (Argument k)) i j x h
 removed_keeps (Property s) i j x h = nth_before (node_without_entry (Property s)) i j x h
 
-value_kept : (t : Target) (v : Value) (given : Text) (p : Path) (ps : List Path) (d e : KdlDocument) → AllByRecursion (IsBefore p) ps → IsSetOnEach ps t v given d e → value_at t (document_says e) p ≡ value_at t (document_says d) p
+value_kept : (t : Target) (v : Value) (given : Text) (p : Path) (ps : List Path) (d e : Document) → AllByRecursion (IsBefore p) ps → IsSetOnEach ps t v given d e → value_at t (document_data e) p ≡ value_at t (document_data d) p
 value_kept t v given p ps d e b h =
-    ap (λ x. value_at t x p) h.says ∙ same_value t (query.node_at p (edited_each (setting t v) ps (document_says d))) (query.node_at p (document_says d)) (kept_before_each (setting t v) (set_keeps t v) p ps (document_says d) b)
+    ap (λ x. value_at t x p) h.says ∙ same_value t (query.node_at p (edited_each (setting t v) ps (document_data d))) (query.node_at p (document_data d)) (kept_before_each (setting t v) (set_keeps t v) p ps (document_data d) b)
 
-named_kept : (t : Target) (p : Path) (ps : List Path) (d e : KdlDocument) → AllByRecursion (IsBefore p) ps → IsRemovedOnEach ps t d e → is_some (named_node t (document_says e) p) ≡ is_some (named_node t (document_says d) p)
+named_kept : (t : Target) (p : Path) (ps : List Path) (d e : Document) → AllByRecursion (IsBefore p) ps → IsRemovedOnEach ps t d e → is_some (named_node t (document_data e) p) ≡ is_some (named_node t (document_data d) p)
 named_kept t p ps d e b h =
-    ap (λ x. is_some (named_node t x p)) h.says ∙ same_named t (query.node_at p (edited_each (removing t) ps (document_says d))) (query.node_at p (document_says d)) (kept_before_each (removing t) (removed_keeps t) p ps (document_says d) b)
+    ap (λ x. is_some (named_node t x p)) h.says ∙ same_named t (query.node_at p (edited_each (removing t) ps (document_data d))) (query.node_at p (document_data d)) (kept_before_each (removing t) (removed_keeps t) p ps (document_data d) b)
 
 -- one path more
 pub contains_first : {A : Type 0} (p : A) (ps : List A) → Contains (p ∷ ps) p
@@ -117,7 +117,7 @@ contains_each {A = A} P p ps h f q c = go c.0 c.1 c.2
 contains_nothing : {A : Type 0} (q : A) → Contains {X = A} [] q → ⊥
 contains_nothing q c = absurd (omega (arith, c.1))
 
-pub set_none : (t : Target) (v : Value) (given : Text) (d : KdlDocument) → DocumentReadsBack d → IsSetOnEach [] t v given d d
+pub set_none : (t : Target) (v : Value) (given : Text) (d : Document) → DocumentReads d → IsSetOnEach [] t v given d d
 set_none t v given d r = record { reads = r; says = refl; bytes = AreExchanged.nothing; there = λ p c. absurd (contains_nothing p c) }
 
 setting_replaces : (t : Target) (v : Value) → Replaces (setting t v) (λ n. Some (node_with_value t v n))
@@ -126,25 +126,22 @@ setting_replaces t v = record { none = λ i. refl; zero = λ n x. refl; suc = λ
 all_set : (t : Target) (v : Value) (ps : List Path) → Ascends ps → (x : data'.Nodes) → edited_each (setting t v) ps x ≡ with_value_at ps t v x
 all_set t v ps h x = everywhere (setting t v) (λ n. Some (node_with_value t v n)) (setting_replaces t v) ps h x
 
-set_next : (t : Target) (v : Value) (given : Text) (p : Path) (ps : List Path) (d e f : KdlDocument) → Ascends (p ∷ ps) → IsSetOnEach ps t v given d e → IsSetOn p t v given e f → IsSetOnEach (p ∷ ps) t v given d f
+set_next : (t : Target) (v : Value) (given : Text) (p : Path) (ps : List Path) (d e f : Document) → Ascends (p ∷ ps) → IsSetOnEach ps t v given d e → IsSetOn p t v given e f → IsSetOnEach (p ∷ ps) t v given d f
 set_next t v given p ps d e f b done one =
     let same = value_kept t v given p ps d e b.0 done in
     record {
       reads = one.reads;
       says = one.says ∙ ap (edited (setting t v) p) done.says;
       bytes = AreExchanged.exchange one.was (λ w h. one.former w (same ∙ h)) done.bytes
-          (exchanged_as (λ w. all_set t w (p ∷ []) (tt, tt) (document_says e) ∙ ap (with_value_at (p ∷ []) t w) (done.says ∙ all_set t v ps b.1 (document_says d))) one.bytes);
-      there = contains_each (λ q. IsSome (value_at t (document_says d) q)) p ps (subst (λ (o : Option Value). IsSome o) same one.there) done.there;
+          (exchanged_as (λ w. all_set t w (p ∷ []) (tt, tt) (document_data e) ∙ ap (with_value_at (p ∷ []) t w) (done.says ∙ all_set t v ps b.1 (document_data d))) one.bytes);
+      there = contains_each (λ q. IsSome (value_at t (document_data d) q)) p ps (subst (λ (o : Option Value). IsSome o) same one.there) done.there;
     }
 
-pub removed_none : (t : Target) (d : KdlDocument) → DocumentReadsBack d → IsRemovedOnEach [] t d d
-removed_none t d r = record { reads = r; says = refl; there = λ p c. absurd (contains_nothing p c) }
-
-removed_next : (t : Target) (p : Path) (ps : List Path) (d e f : KdlDocument) → AllByRecursion (IsBefore p) ps → IsRemovedOnEach ps t d e → IsRemovedOnEach (p ∷ []) t e f → IsRemovedOnEach (p ∷ ps) t d f
+removed_next : (t : Target) (p : Path) (ps : List Path) (d e f : Document) → AllByRecursion (IsBefore p) ps → IsRemovedOnEach ps t d e → IsRemovedOnEach (p ∷ []) t e f → IsRemovedOnEach (p ∷ ps) t d f
 removed_next t p ps d e f b done one = record {
   reads = one.reads;
   says = one.says ∙ ap (edited (removing t) p) done.says;
-  there = contains_each (λ q. IsSome (named_node t (document_says d) q)) p ps (sym (named_kept t p ps d e b done) ∙ one.there p (contains_first p [])) done.there;
+  there = contains_each (λ q. IsSome (named_node t (document_data d) q)) p ps (sym (named_kept t p ps d e b done) ∙ one.there p (contains_first p [])) done.there;
 }
 
 -- a path is before those after it
@@ -170,59 +167,57 @@ next all rest before p done o h k =
     let e : all ≡ before ++ p ∷ done = h ∙ ap (λ l. l ++ done) k ∙ append_assoc before (p ∷ []) done in
     record { paths = e; ordered = ascends (p ∷ done) (after_these before (p ∷ done) (subst (AllPairs IsBefore) e o)) }
 
-pub split_paths : (rest before : List (Vec ℕ Global)) (v : Vec ℕ Global) (p : Path) → rest ≡ before ++ v ∷ [] → p ≡ v.items → paths_of rest ≡ paths_of before ++ p ∷ []
-split_paths rest before v p h e = ap paths_of h ∙ map-append (λ (u : Vec ℕ Global). u.items) before (v ∷ []) ∙ ap (λ i. paths_of before ++ i ∷ []) (sym e)
+-- the turn that is taken next
+pub split_back : (ts rest : List Turn) (t : Turn) (p : Path) → ts ≡ rest ++ t ∷ [] → reverse (paths_from p (reverse ts)) ≡ reverse (paths_from (turned p t) (reverse rest)) ++ turned p t ∷ []
+split_back ts rest t p h =
+    ap (λ l. reverse (paths_from p (reverse l))) h ∙ ap (λ l. reverse (paths_from p l)) (reverse-append rest (t ∷ [])) ∙ reverse-append (turned p t ∷ []) (paths_from (turned p t) (reverse rest))
 
 -- the loop of `set_at_paths`: the paths done, and the document there
-pub record IsSetSo (all rest : List Path) (t : Target) (v : Value) (given : Text) (d e : KdlDocument) : Type 0 where
+pub record IsSetSo (all rest : List Path) (t : Target) (v : Value) (given : Text) (d e : Document) : Type 0 where
   pub done : List Path
   pub paths : all ≡ rest ++ done
   pub set : IsSetOnEach done t v given d e
 
-pub set_begins : (all rest : List Path) (t : Target) (v : Value) (given : Text) (d : KdlDocument) → all ≡ rest → DocumentReadsBack d → IsSetSo all rest t v given d d
+pub set_begins : (all rest : List Path) (t : Target) (v : Value) (given : Text) (d : Document) → all ≡ rest → DocumentReads d → IsSetSo all rest t v given d d
 set_begins all rest t v given d h r = record { done = []; paths = h ∙ sym (append-nil rest); set = set_none t v given d r }
 
-pub set_goes : (all rest before : List Path) (p : Path) (t : Target) (v : Value) (given : Text) (d e f : KdlDocument) → AllPairs IsBefore all → rest ≡ before ++ p ∷ [] → IsSetSo all rest t v given d e → IsSetOn p t v given e f → IsSetSo all before t v given d f
+pub set_goes : (all rest before : List Path) (p : Path) (t : Target) (v : Value) (given : Text) (d e f : Document) → AllPairs IsBefore all → rest ≡ before ++ p ∷ [] → IsSetSo all rest t v given d e → IsSetOn p t v given e f → IsSetSo all before t v given d f
 set_goes all rest before p t v given d e f o k so one =
     let n = next all rest before p so.done o so.paths k in
     record { done = p ∷ so.done; paths = n.paths; set = set_next t v given p so.done d e f n.ordered so.set one }
 
-pub set_misses : (all rest before : List Path) (p : Path) (t : Target) (v : Value) (given : Text) (d e : KdlDocument) → AllPairs IsBefore all → rest ≡ before ++ p ∷ [] → IsSetSo all rest t v given d e → value_at t (document_says e) p ≡ None
-    → (q : Path) × Contains all q × (value_at t (document_says d) q ≡ None)
+pub set_misses : (all rest before : List Path) (p : Path) (t : Target) (v : Value) (given : Text) (d e : Document) → AllPairs IsBefore all → rest ≡ before ++ p ∷ [] → IsSetSo all rest t v given d e → value_at t (document_data e) p ≡ None
+    → (q : Path) × Contains all q × (value_at t (document_data d) q ≡ None)
 set_misses all rest before p t v given d e o k so none =
     let n = next all rest before p so.done o so.paths k in
     (p, subst (λ l. Contains l p) (sym n.paths) (Contains-append_right before (p ∷ so.done) p (contains_first p so.done)), sym (value_kept t v given p so.done d e n.ordered.0 so.set) ∙ none)
 
 -- the same of `remove_at_paths`
-pub record IsRemovedSo (all rest : List Path) (t : Target) (d e : KdlDocument) : Type 0 where
+pub record IsRemovedSo (all rest : List Path) (t : Target) (d e : Document) : Type 0 where
   pub done : List Path
   pub paths : all ≡ rest ++ done
   pub removed : IsRemovedOnEach done t d e
 
-pub removal_begins : (all rest : List Path) (t : Target) (d : KdlDocument) → all ≡ rest → DocumentReadsBack d → IsRemovedSo all rest t d d
-removal_begins all rest t d h r = record { done = []; paths = h ∙ sym (append-nil rest); removed = removed_none t d r }
-
-pub removal_goes : (all rest before : List Path) (p : Path) (t : Target) (d e f : KdlDocument) → AllPairs IsBefore all → rest ≡ before ++ p ∷ [] → IsRemovedSo all rest t d e → IsRemovedOnEach (p ∷ []) t e f → IsRemovedSo all before t d f
+pub removal_goes : (all rest before : List Path) (p : Path) (t : Target) (d e f : Document) → AllPairs IsBefore all → rest ≡ before ++ p ∷ [] → IsRemovedSo all rest t d e → IsRemovedOnEach (p ∷ []) t e f → IsRemovedSo all before t d f
 removal_goes all rest before p t d e f o k so one =
     let n = next all rest before p so.done o so.paths k in
     record { done = p ∷ so.done; paths = n.paths; removed = removed_next t p so.done d e f n.ordered.0 so.removed one }
 
-pub removal_misses : (all rest before : List Path) (p : Path) (t : Target) (d e : KdlDocument) → AllPairs IsBefore all → rest ≡ before ++ p ∷ [] → IsRemovedSo all rest t d e → named_node t (document_says e) p ≡ None
-    → (q : Path) × Contains all q × (named_node t (document_says d) q ≡ None)
+pub removal_misses : (all rest before : List Path) (p : Path) (t : Target) (d e : Document) → AllPairs IsBefore all → rest ≡ before ++ p ∷ [] → IsRemovedSo all rest t d e → named_node t (document_data e) p ≡ None
+    → (q : Path) × Contains all q × (named_node t (document_data d) q ≡ None)
 removal_misses all rest before p t d e o k so none =
     let n = next all rest before p so.done o so.paths k in
-    (p, subst (λ l. Contains l p) (sym n.paths) (Contains-append_right before (p ∷ so.done) p (contains_first p so.done)), none_as (named_node t (document_says e) p) (named_node t (document_says d) p) (named_kept t p so.done d e n.ordered.0 so.removed) none)
+    (p, subst (λ l. Contains l p) (sym n.paths) (Contains-append_right before (p ∷ so.done) p (contains_first p so.done)), none_as (named_node t (document_data e) p) (named_node t (document_data d) p) (named_kept t p so.done d e n.ordered.0 so.removed) none)
 
 -- one path
-held_said : (p : Path) (d : KdlDocument) (n : KdlNode) → held_at p d ≡ Some n → query.node_at p (document_says d) ≡ Some (node_says n)
-held_said p d n h = sym (held_says p d) ∙ ap (option_map node_says) h
+pub same_node : (a b : KdlNode) (o : Option KdlNode) → o ≡ Some a → o ≡ Some b → a ≡ b
+same_node a b o h k = cc
 
-pub set_on : (t : Target) (v : Value) (given : Text) (p : Path) (d e : KdlDocument) (n : KdlNode) (i : ℕ) → held_at p d ≡ Some n → place_of_target t (entries_of n) ≡ Some i → IsValueText given v → AtNode p (IsValueSet i v given) d e → DocumentReadsBack d
-    → IsSetOn p t v given d e
-set_on t v given p d e n i h place ok at r =
-    let (ss, leads) = steps_to p d n h in
-    let x : IsValueDone p t v given d e n = value_done p t v given d e n i (leads_at ss p (nodes_of d) n leads) place ok at r in
-    let here : value_at t (document_says d) p ≡ value_in t (node_says n) = ap (option_and_then (value_in t)) (held_said p d n h) in
+pub set_on : (t : Target) (v : Value) (given : Text) (p : Path) (d e : Document) (n m : KdlNode) (i : ℕ) → IsAt p d (node_tree n) → query.node_at p (document_data d) ≡ Some (node_says n) → place_of_target t (entries_of n) ≡ Some i → IsValueText given v
+    → IsValueSet i v given n m → e ≡ changed_at p (λ _. node_tree m) d → DocumentReads d → IsSetOn p t v given d e
+set_on t v given p d e n m i at said place ok set rest r =
+    let x : IsValueDone p t v given d e n = value_done p t v given d e n m i at place ok set rest r in
+    let here : value_at t (document_data d) p ≡ value_in t (node_says n) = ap (option_and_then (value_in t)) said in
     record {
       reads = x.reads;
       says = x.says;
@@ -232,35 +227,44 @@ set_on t v given p d e n i h place ok at r =
       there = subst (λ (o : Option Value). IsSome o) (sym here) (value_is_there t n i (sym place));
     }
 
-removed_along : (t : Target) (ss : List Step) (p : Path) (d : KdlDocument) (n : KdlNode) → Leads ss p (nodes_of d) None n → without_target t ss (document_says d) ≡ edited (removing t) p (document_says d)
-removed_along Node ss p d n h = without_along (removing Node) (λ i x. refl) ss p d n h
-removed_along (Argument k) ss p d n h = changed_along (node_without_entry (Argument k)) (removing (Argument k)) (λ i x. refl) ss p d n h
-removed_along (Property s) ss p d n h = changed_along (node_without_entry (Property s)) (removing (Property s)) (λ i x. refl) ss p d n h
+removed_entry : (t : Target) (p : Path) (d : Document) (n m : KdlNode) (i : ℕ) → IsAt p d (node_tree n) → IsNamed t n (Some i) → EntryRemoved i n m → document_data (changed_at p (λ _. node_tree m) d) ≡ edited (removing t) p (document_data d)
+removed_entry Node p d n m i at named h = absurd (named.0 refl)
+removed_entry (Argument k) p d n m i at named h = says_at (λ _. node_tree m) (node_without_entry (Argument k)) (removing (Argument k)) p d (node_tree n) (removed_says (Argument k) n m i named.1 h) (λ i x. refl) at
+removed_entry (Property s) p d n m i at named h = says_at (λ _. node_tree m) (node_without_entry (Property s)) (removing (Property s)) p d (node_tree n) (removed_says (Property s) n m i named.1 h) (λ i x. refl) at
 
-pub removed_on : (t : Target) (p : Path) (d e : KdlDocument) (n : KdlNode) (o : Option ℕ) → held_at p d ≡ Some n → IsNamed t n o → ((ss : List Step) → Leads ss p (nodes_of d) None n → IsRemovedAt ss t d e) → IsRemovedOnEach (p ∷ []) t d e
-removed_on t p d e n o h named f =
-    let (ss, leads) = steps_to p d n h in
-    let x = f ss leads in
-    record {
-      reads = x.reads;
-      says = x.says ∙ removed_along t ss p d n leads;
-      there = contains_each (λ q. IsSome (named_node t (document_says d) q)) p [] (ap (λ m. is_some (option_and_then (with_target t) m)) (held_said p d n h) ∙ target_named t n o named) (λ q c. absurd (contains_nothing q c));
-    }
+removed_there : (t : Target) (p : Path) (d : Document) (n : KdlNode) (o : Option ℕ) → query.node_at p (document_data d) ≡ Some (node_says n) → IsNamed t n o → (q : Path) → Contains (p ∷ []) q → IsSome (named_node t (document_data d) q)
+removed_there t p d n o said named =
+    contains_each (λ q. IsSome (named_node t (document_data d) q)) p [] (ap (λ m. is_some (option_and_then (with_target t) m)) said ∙ target_named t n o named) (λ q c. absurd (contains_nothing q c))
+
+pub entry_removed_on : (t : Target) (p : Path) (d e : Document) (n m : KdlNode) (i : ℕ) → IsAt p d (node_tree n) → query.node_at p (document_data d) ≡ Some (node_says n) → IsNamed t n (Some i) → EntryRemoved i n m → e ≡ changed_at p (λ _. node_tree m) d
+    → DocumentReads d → IsRemovedOnEach (p ∷ []) t d e
+entry_removed_on t p d e n m i at said named h rest r = record {
+  reads = subst DocumentReads (sym rest) ((reads_at p d (node_tree n) at r).changed (λ _. node_tree m) (removed_reads n m i h));
+  says = ap document_data rest ∙ removed_entry t p d n m i at named h;
+  there = removed_there t p d n (Some i) said named;
+}
+
+pub node_removed_on : (t : Target) (p : Path) (d e : Document) (n : KdlNode) → query.node_at p (document_data d) ≡ Some (node_says n) → t ≡ Node → DocumentReads e → document_data e ≡ edited (removing Node) p (document_data d) → IsRemovedOnEach (p ∷ []) t d e
+node_removed_on t p d e n said own reads says = record {
+  reads = reads;
+  says = says ∙ ap (λ t. edited (removing t) p (document_data d)) (sym own);
+  there = removed_there t p d n None said own;
+}
 
 -- no path is selected
 no_items : {A : Type 0} (xs : List A) → length xs ≡ 0 → xs ≡ []
 no_items [] h = refl
 no_items (x ∷ xs) h = absurd (omega arith)
 
-pub none_selected : (x : data'.Nodes) (q : Query) (vs : List (Vec ℕ Global)) → IsSelection x q (paths_of vs) → length vs ≡ 0 → (p : Path) → IsSelected x q p → ⊥
-none_selected x q vs h e p s = contains_nothing p (subst (λ l. Contains (paths_of l) p) (no_items vs e) ((h.each p).1 s))
+pub none_selected : (x : data'.Nodes) (q : Query) (ts : List Turn) → IsSelection x q (paths_from [] ts) → length ts ≡ 0 → (p : Path) → IsSelected x q p → ⊥
+none_selected x q ts h e p s = contains_nothing p (subst (λ l. Contains (paths_from [] l) p) (no_items ts e) ((h.each p).1 s))
 
 -- what is missing at a path
-pub value_missing_at : (t : Target) (p : Path) (d : KdlDocument) (n : KdlNode) → Some (node_says n) ≡ query.node_at p (document_says d) → None ≡ place_of_target t (entries_of n) → value_at t (document_says d) p ≡ None
-value_missing_at t p d n h e = sym (ap (option_and_then (value_in t)) h) ∙ sym (value_missing t n e)
+pub value_missing_at : (t : Target) (p : Path) (x : data'.Nodes) (n : KdlNode) → query.node_at p x ≡ Some (node_says n) → place_of_target t (entries_of n) ≡ None → value_at t x p ≡ None
+value_missing_at t p x n h e = ap (option_and_then (value_in t)) h ∙ sym (value_missing t n (sym e))
 
-pub name_missing_at : (t : Target) (p : Path) (d : KdlDocument) (n : KdlNode) → Some (node_says n) ≡ query.node_at p (document_says d) → (t ≡ Node → ⊥) × (place_of_target t (entries_of n) ≡ None) → named_node t (document_says d) p ≡ None
-name_missing_at t p d n h e = sym (ap (option_and_then (with_target t)) h) ∙ target_missing t n e.0 e.1
+pub name_missing_at : (t : Target) (p : Path) (x : data'.Nodes) (n : KdlNode) → query.node_at p x ≡ Some (node_says n) → (t ≡ Node → ⊥) × (place_of_target t (entries_of n) ≡ None) → named_node t x p ≡ None
+name_missing_at t p x n h e = ap (option_and_then (with_target t)) h ∙ target_missing t n e.0 e.1
 
 -- the edits of all paths
 removing_replaces : (t : Target) → Replaces (removing t) (removed t)
@@ -288,7 +292,7 @@ remove_each_missing q t text x ps edit.NotNode d s h = absurd h
 
 -- the texts
 pub set_each_ends : (q : Query) (t : Target) (s : Spelled) (given text : Text) (ps : List Path) (d e : KdlDocument) (out : String Global) (x : data'.Nodes) → IsDocument text x → text_of s.spelling ≡ given → IsValueText given (value_tree s.value)
-    → ((z : data'.Nodes) → IsDocument text z → z ≡ document_says d) → document_prints d ≡ text → IsSelection (document_says d) q ps → (ps ≡ [] → ⊥) → IsSetOnEach ps t (value_tree s.value) (text_of s.spelling) d e
+    → ((z : data'.Nodes) → IsDocument text z → z ≡ document_says d) → document_prints d ≡ text → IsSelection (document_says d) q ps → (ps ≡ [] → ⊥) → IsSetOnEach ps t (value_tree s.value) (text_of s.spelling) (document_tree d) (document_tree e)
     → string_bytes out ≡ encode_utf8_all (document_prints e) → IsSetAtEach x q t given text (text_of out)
 set_each_ends q t s given text ps d e out x is spelled ok only prints selection some set bytes =
     let printed : text_of out ≡ document_prints e = printed_text {E = Unit {0}} (Ok out) (document_prints e) bytes in
@@ -307,7 +311,7 @@ set_each_ends q t s given text ps d e out x is spelled ok only prints selection 
     })
 
 pub remove_each_ends : (q : Query) (t : Target) (text : Text) (ps : List Path) (d e : KdlDocument) (out : String Global) (x : data'.Nodes) → IsDocument text x → ((z : data'.Nodes) → IsDocument text z → z ≡ document_says d)
-    → IsSelection (document_says d) q ps → (ps ≡ [] → ⊥) → IsRemovedOnEach ps t d e → string_bytes out ≡ encode_utf8_all (document_prints e) → IsRemovedAtEach x q t (text_of out)
+    → IsSelection (document_says d) q ps → (ps ≡ [] → ⊥) → IsRemovedOnEach ps t (document_tree d) (document_tree e) → string_bytes out ≡ encode_utf8_all (document_prints e) → IsRemovedAtEach x q t (text_of out)
 remove_each_ends q t text ps d e out x y only selection some h bytes =
     subst (λ (z : data'.Nodes). IsRemovedAtEach z q t (text_of out)) (sym (only x y)) (record {
       paths = ps;

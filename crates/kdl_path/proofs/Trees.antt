@@ -96,7 +96,7 @@ pub record StillReads (m : Node) (T : (Node → Node) → Type 0) : Type 0 where
   pub own : AnyReads m
   pub changed : (f : Node → Node) → ((P : Rests) → NodeReads P m → NodeReads P (f m)) → T f
 
-content_as : {P : Rests} {l t : Text} (n : Node) (ns ms : Nodes) → ((Q : Rests) → NodesRead Q (first n ns) → NodesRead Q ms) → ContentReads P l t (first n ns) → ContentReads P l t ms
+pub content_as : {P : Rests} {l t : Text} (n : Node) (ns ms : Nodes) → ((Q : Rests) → NodesRead Q (first n ns) → NodesRead Q ms) → ContentReads P l t (first n ns) → ContentReads P l t ms
 content_as n ns ms f (with_nodes a x g) = content_with ms a (f _ x) g
 
 block_as : (o : Option DocumentFormat) (s : SourceSpan) (n : Node) (ns ms : Nodes) → ((Q : Rests) → NodesRead Q (first n ns) → NodesRead Q ms) → BlockReads (document o s (first n ns)) → BlockReads (document o s ms)

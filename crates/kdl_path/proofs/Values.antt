@@ -157,12 +157,12 @@ entry_set n i e =
     ∙ sym (ap (with_piece i (entry_tree e)) (node_tree_out n))
 
 -- e is d with another value for the entry of a target in the node n, which is at a path
-pub record IsValueDone (p : List ℕ) (tg : Target) (v : Value) (given : Text) (d e : KdlDocument) (n : KdlNode) : Type 0 where
-  pub reads : DocumentReadsBack e
-  pub says : document_says e ≡ edited (setting tg v) p (document_says d)
+pub record IsValueDone (p : List ℕ) (tg : Target) (v : Value) (given : Text) (d e : Document) (n : KdlNode) : Type 0 where
+  pub reads : DocumentReads e
+  pub says : document_data e ≡ edited (setting tg v) p (document_data d)
   pub was : Text
   pub former : (w : Value) → value_in tg (node_says n) ≡ Some w → IsValueText was w
-  pub bytes : IsExchangedAt (λ w. edited (setting tg w) p (document_says d)) was given (document_prints d) (document_prints e)
+  pub bytes : IsExchangedAt (λ w. edited (setting tg w) p (document_data d)) was given (print_document d 0) (print_document e 0)
 
 node_same : (a b : KdlNode) (o : Option KdlNode) → o ≡ Some a → o ≡ Some b → a ≡ b
 node_same a b o h k = cc
@@ -196,40 +196,35 @@ value_prints p d m i e at r there =
       spelled = λ v t. x.prints (with_spelled v t e) ∙ ap (λ (t : Text). x.before ++ t ++ x.after) (y.spelled v t) ∙ seam t;
     }
 
-pub value_done : (p : List ℕ) (tg : Target) (v : Value) (t : Text) (d e : KdlDocument) (n : KdlNode) (i : ℕ) → node_at p (nodes_of d) ≡ Some n → place_of_target tg (entries_of n) ≡ Some i → IsValueText t v → AtNode p (IsValueSet i v t) d e → DocumentReadsBack d
-    → IsValueDone p tg v t d e n
-value_done p tg v t d e n i there place ok h r = go (node_same h.old n _ h.there there)
-  where
-    go : h.old ≡ n → IsValueDone p tg v t d e n
-    go same =
-        let s : IsValueSet i v t n h.new = subst (λ (k : KdlNode). IsValueSet i v t k h.new) same h.related in
-        let m = node_tree n in
-        let old = entry_tree s.old in
-        let at : IsAt p (document_tree d) m = at_tree p d n there in
-        let entry : slice_get (tree_entries m) i ≡ Some old = entry_there n i s.old s.there in
-        let still = reads_at p (document_tree d) m at r in
-        let own : EntryReads old = piece_read i old m still.own.there entry in
-        let x : PrintsValueAt p (document_tree d) m i old = value_prints p (document_tree d) m i old at still.own.there entry in
-        let changed : Text → Value → Document = λ w u. changed_at p (λ _. with_piece i (with_spelled u w old) m) (document_tree d) in
-        let reads : (w : Text) (u : Value) → IsValueText w u → DocumentReads (changed w u) = λ w u k. still.changed (λ _. with_piece i (with_spelled u w old) m) (piece_reads i (with_spelled u w old) m (spelled_reads old u w old.format k own)) in
-        let says : (w : Text) (u : Value) → document_data (changed w u) ≡ edited (setting tg u) p (document_says d) =
-        λ w u. says_at (λ _. with_piece i (with_spelled u w old) m) (node_with_value tg u) (setting tg u) p (document_tree d) m (piece_says tg u w i old m entry (place_there tg n i place)) (λ j y. refl) at in
-        let tree : document_tree e ≡ changed t v = h.rest ∙ ap (λ (k : Node). changed_at p (λ _. k) (document_tree d)) (ap node_tree s.rest ∙ entry_set n i s.new ∙ ap (λ (y : Entry). with_piece i y m) s.tree) in
-        record {
-          reads = subst DocumentReads (sym tree) (reads t v ok);
-          says = ap document_data tree ∙ says t v;
-          was = value_text old old.format;
-          former = λ w k. let same : old.value ≡ w = value_same old.value w _ (value_found tg n i s.old (sym place) s.there) k in subst (λ (u : Value). IsValueText (value_text old old.format) u) same (value_is_read old own);
-          bytes = record {
-            before = x.before;
-            after = x.after;
-            place = λ w u k.
-                subst (λ (z : Text). IsDocument z (edited (setting tg u) p (document_says d))) (x.spelled u w)
-                (subst (λ (y : nodes'.Nodes). IsDocument (print_document (changed w u) 0) y) (says w u) (reads_derived (changed w u) (reads w u k)));
-            old = x.own;
-            new = ap (λ (y : Document). print_document y 0) tree ∙ x.spelled v t;
-          };
-        }
+pub value_done : (p : List ℕ) (tg : Target) (v : Value) (t : Text) (d e : Document) (n k : KdlNode) (i : ℕ) → IsAt p d (node_tree n) → place_of_target tg (entries_of n) ≡ Some i → IsValueText t v → IsValueSet i v t n k → e ≡ changed_at p (λ _. node_tree k) d
+    → DocumentReads d → IsValueDone p tg v t d e n
+value_done p tg v t d e n k i at place ok s rest r =
+    let m = node_tree n in
+    let old = entry_tree s.old in
+    let entry : slice_get (tree_entries m) i ≡ Some old = entry_there n i s.old s.there in
+    let still = reads_at p d m at r in
+    let own : EntryReads old = piece_read i old m still.own.there entry in
+    let x : PrintsValueAt p d m i old = value_prints p d m i old at still.own.there entry in
+    let changed : Text → Value → Document = λ w u. changed_at p (λ _. with_piece i (with_spelled u w old) m) d in
+    let reads : (w : Text) (u : Value) → IsValueText w u → DocumentReads (changed w u) = λ w u k. still.changed (λ _. with_piece i (with_spelled u w old) m) (piece_reads i (with_spelled u w old) m (spelled_reads old u w old.format k own)) in
+    let says : (w : Text) (u : Value) → document_data (changed w u) ≡ edited (setting tg u) p (document_data d) =
+    λ w u. says_at (λ _. with_piece i (with_spelled u w old) m) (node_with_value tg u) (setting tg u) p d m (piece_says tg u w i old m entry (place_there tg n i place)) (λ j y. refl) at in
+    let tree : e ≡ changed t v = rest ∙ ap (λ (k : Node). changed_at p (λ _. k) d) (ap node_tree s.rest ∙ entry_set n i s.new ∙ ap (λ (y : Entry). with_piece i y m) s.tree) in
+    record {
+      reads = subst DocumentReads (sym tree) (reads t v ok);
+      says = ap document_data tree ∙ says t v;
+      was = value_text old old.format;
+      former = λ w k. let same : old.value ≡ w = value_same old.value w _ (value_found tg n i s.old (sym place) s.there) k in subst (λ (u : Value). IsValueText (value_text old old.format) u) same (value_is_read old own);
+      bytes = record {
+        before = x.before;
+        after = x.after;
+        place = λ w u k.
+            subst (λ (z : Text). IsDocument z (edited (setting tg u) p (document_data d))) (x.spelled u w)
+            (subst (λ (y : nodes'.Nodes). IsDocument (print_document (changed w u) 0) y) (says w u) (reads_derived (changed w u) (reads w u k)));
+        old = x.own;
+        new = ap (λ (y : Document). print_document y 0) tree ∙ x.spelled v t;
+      };
+    }
 
 -- the same place, with a document that is told otherwise
 pub exchanged_as : {f g : Value → nodes'.Nodes} {was given text out : Text} → ((v : Value) → f v ≡ g v) → IsExchangedAt f was given text out → IsExchangedAt g was given text out
@@ -239,8 +234,11 @@ exchanged_as e x = record { before = x.before; after = x.after; place = λ w v d
 pub set_done : (ss : List Step) (t : Target) (is : List ℕ) (d e : KdlDocument) (n : KdlNode) (s : Spelled) (c : Change) → Leads ss is (nodes_of d) None n → SetsValue t s (entries_of n) c → AtNode is (IsMade c) d e → DocumentReadsBack d
     → IsValueText (text_of s.spelling) (value_tree s.value) → IsDoneAt ss t (text_of s.spelling) d e
 set_done ss t is d e n s c leads m at r ok =
-    let made = subst (λ (k : Change). AtNode is (IsMade k) d e) m.change at in
-    let x : IsValueDone is t (value_tree s.value) (text_of s.spelling) d e n = value_done is t (value_tree s.value) (text_of s.spelling) d e n m.at (leads_at ss is (nodes_of d) n leads) m.place ok made r in
+    let made : AtNode is (IsValueSet m.at (value_tree s.value) (text_of s.spelling)) d e = subst (λ (k : Change). AtNode is (IsMade k) d e) m.change at in
+    let there : node_at is (nodes_of d) ≡ Some n = leads_at ss is (nodes_of d) n leads in
+    let related = subst (λ (k : KdlNode). IsValueSet m.at (value_tree s.value) (text_of s.spelling) k made.new) (node_same made.old n _ made.there there) made.related in
+    let x : IsValueDone is t (value_tree s.value) (text_of s.spelling) (document_tree d) (document_tree e) n =
+    value_done is t (value_tree s.value) (text_of s.spelling) (document_tree d) (document_tree e) n made.new m.at (at_tree is d n there) m.place ok related made.rest r in
     record {
       was = x.was;
       former = λ w k. x.former w (sym (ap (option_and_then (value_in t)) (leads_said ss is d n leads)) ∙ k);

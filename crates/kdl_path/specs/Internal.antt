@@ -16,3 +16,5 @@ pub mod Every
 pub mod OnEach
 -- What is made for a value that is missing.
 pub mod Made
+-- A document that is open along a path.
+pub mod Cursor

@@ -217,7 +217,7 @@ fn begin_next(alloc: Global, block: &mut KdlDocument, at: usize) -> Result<(), A
 }
 
 /// Applies the change to the node at the index.
-fn change_in(
+pub(crate) fn change_in(
     alloc: Global,
     block: &mut KdlDocument,
     index: usize,

@@ -1,30 +1,32 @@
 //! Edits at each node that a query selects.
 
-ghost use Rattle.kdl.specs.Words.{DocumentReadsBack, IsDocument, Nodes, document_says, entries_of, value_tree};
+ghost use Rattle.kdl.specs.Words.{DocumentReadsBack, IsDocument, Nodes, document_data, document_says, document_tree, entries_of, nodes_of, value_tree};
 ghost use Rattle.kdl.specs.declared.node.KdlNode.{KdlNode};
+ghost use Rattle.kdl_grammar.specs.ReadsBack.{DocumentReads};
 ghost use Rattle.c_calls.specs.Entries.{IsValueText};
-ghost use Rattle.kdl_query.specs.Held.{held_at};
 ghost use Rattle.kdl_query.specs.Selects.{IsBefore, IsSelected, IsSelection, Path};
 ghost use Rattle.kdl_query.specs.Tree.{query_says};
+ghost use Rattle.kdl_query.specs.Turns.{paths_from};
 ghost use Rattle.kdl_path.specs.Each.{IsRemovedAtEach, IsSetAtEach, RemoveEachFails, SetEachFails, named_node, value_at};
-ghost use Rattle.kdl_path.specs.Internal.Done.{IsNamed};
+ghost use Rattle.kdl_path.specs.Internal.Cursor.{path_of, whole};
 ghost use Rattle.kdl_path.specs.Internal.Failing.{MissesIf};
 ghost use Rattle.kdl_path.specs.Internal.Located.{place_of_target};
-ghost use Rattle.kdl_path.specs.Internal.OnEach.{IsRemovedOnEach, IsSetOn, IsSetOnEach, paths_of};
+ghost use Rattle.kdl_path.specs.Internal.OnEach.{IsRemovedOnEach, IsSetOn, IsSetOnEach, paths_back};
 ghost use Rattle.kdl_value.specs.Tree.{text_of};
 ghost use Rattle.std.specs.List.{AllPairs};
-ghost use Rattle.std.specs.Prelude.{◌≡◌, [], ◌∷◌, Contains, IfErr, IfOk, None, Some};
+ghost use Rattle.std.specs.Prelude.{◌≡◌, ◌<◌, [], ◌∷◌, Contains, IfErr, IfOk, None, OnOk, Some, length, slice_get};
 ghost use Rattle.std.specs.Str.{chars};
 
-use crate::change::{Change, change_at};
+use crate::change::{Change, change_in};
+use crate::cursor::Cursor;
 use crate::failure::{EditFailure, Missing};
 use crate::locate::{entry_place, missing_entry};
 use crate::path::Target;
-use crate::removal::{named_place, remove_at};
+use crate::removal::named_place;
 use crate::value::{Spelled, read_value};
 use kdl::KdlDocument;
-use kdl_query::{Query, node_at, query_paths};
-use std::alloc::Global;
+use kdl_query::{Query, Turn, query_turns};
+use std::alloc::{AllocError, Global};
 
 /// Returns the text with VALUE in place of the value that the target names in each node that the query selects. VALUE is
 /// written as it is given, and every byte outside the former values is unchanged.
@@ -56,8 +58,8 @@ pub fn set_each(
 {
     let value = read_value(alloc, value)?;
     let document = KdlDocument::parse(alloc, text)?;
-    let paths = selected(alloc, &document, query)?;
-    let changed = set_at_paths(alloc, document, &paths, target, &value)?;
+    let turns = selected(alloc, &document, query)?;
+    let changed = set_at_paths(alloc, document, turns, target, &value)?;
     Ok(changed.to_string(alloc)?)
 }
 
@@ -86,150 +88,154 @@ pub fn remove_each(
     ensures fails { IfErr result (RemoveEachFails (query_says query.now) target.now text.now) }
 {
     let document = KdlDocument::parse(alloc, text)?;
-    let paths = selected(alloc, &document, query)?;
-    let changed = remove_at_paths(alloc, document, &paths, target)?;
+    let turns = selected(alloc, &document, query)?;
+    let changed = remove_at_paths(alloc, document, turns, target)?;
     Ok(changed.to_string(alloc)?)
 }
 
-/// Returns the paths that the query selects, or `Missing` if it selects none.
-fn selected(
-    alloc: Global,
-    document: &KdlDocument,
-    query: &Query,
-) -> Result<Vec<Vec<usize>>, EditFailure>
-    ensures selection { IfOk result (λ ps. IsSelection (document_says document.now)
-        (query_says query.now) (paths_of ps.items)) }
-    ensures some { IfOk result (λ ps. paths_of ps.items ≡ [] → ⊥) }
+/// Returns the turns to the paths that the query selects, from the last path to the first, so that no edit moves a node that
+/// is edited later. They are taken from the end of the list. Fails with `Missing` if the query selects nothing.
+fn selected(alloc: Global, document: &KdlDocument, query: &Query) -> Result<Vec<Turn>, EditFailure>
+    ensures selection { IfOk result (λ ts. IsSelection (document_says document.now)
+        (query_says query.now) (paths_back ts.items)) }
+    ensures some { IfOk result (λ ts. paths_back ts.items ≡ [] → ⊥) }
     ensures missing { IfErr result (λ e. MissesIf ((p : Path)
         → ¬ IsSelected (document_says document.now) (query_says query.now) p) e) }
 {
-    let paths = query_paths(alloc, document, query)?;
-    if paths.is_empty() {
+    let turns = query_turns(alloc, document, query)?;
+    let Some((first, others)) = turns.split_first() else {
         return Err(EditFailure::Missing(Missing::Selection));
+    };
+    Ok(backward(alloc, first, others)?)
+}
+
+/// Returns the turns to the same paths from the last one to the first.
+fn backward(alloc: Global, first: &Turn, others: &[Turn]) -> Result<Vec<Turn>, AllocError>
+    ensures { IfOk result (λ ts.
+        paths_back ts.items ≡ paths_from [] (first.now ∷ others.now)) }
+{
+    let mut path = first.rest.clone()?;
+    let mut back = Vec::new(alloc);
+    for turn in others {
+        let kept = turn.kept.min(path.len());
+        let rest = path.split_off(kept)?;
+        path.extend_from_slice(&turn.rest)?;
+        back.push(Turn { kept, rest })?;
     }
-    Ok(paths)
+    back.push(Turn {
+        kept: 0,
+        rest: path,
+    })?;
+    Ok(back)
 }
 
 /// Returns the document with the value at each of the paths.
 fn set_at_paths(
     alloc: Global,
     document: KdlDocument,
-    paths: &[Vec<usize>],
+    turns: Vec<Turn>,
     target: &Target,
     value: &Spelled,
 ) -> Result<KdlDocument, EditFailure>
-    requires ordered { AllPairs IsBefore (paths_of paths.now) }
+    requires ordered { AllPairs IsBefore (paths_back turns.items) }
     requires reads { DocumentReadsBack document }
     requires value { IsValueText (text_of value.now.spelling) (value_tree value.now.value) }
-    ensures set { IfOk result (λ e. IsSetOnEach (paths_of paths.now) target.now
-        (value_tree value.now.value) (text_of value.now.spelling) document e) }
-    ensures missing { IfErr result (λ e. MissesIf ((p : Path) × Contains (paths_of paths.now) p
+    ensures set { IfOk result (λ e. IsSetOnEach (paths_back turns.items) target.now
+        (value_tree value.now.value) (text_of value.now.spelling)
+        (document_tree document) (document_tree e)) }
+    ensures missing { IfErr result (λ e. MissesIf ((p : Path) × Contains (paths_back turns.items) p
         × (value_at target.now (document_says document) p ≡ None)) e) }
 {
-    let mut document = document;
-    let mut rest = paths;
-    while let Some((path, before)) = rest.split_last() {
-        document = set_at(alloc, document, path, target, value)?;
-        rest = before;
+    let mut cursor = Cursor::over(alloc, document);
+    let mut turns = turns;
+    while let Some(turn) = turns.pop() {
+        cursor.turn(alloc, &turn)?;
+        set_value(alloc, &mut cursor, target, value)?;
     }
-    Ok(document)
+    Ok(cursor.close()?)
 }
 
-/// Returns the document with the value in the node at the path.
-fn set_at(
+/// Sets the value in the node at the path of the cursor.
+fn set_value(
     alloc: Global,
-    document: KdlDocument,
-    path: &[usize],
+    cursor: &mut Cursor,
     target: &Target,
     value: &Spelled,
-) -> Result<KdlDocument, EditFailure>
-    requires reads { DocumentReadsBack document }
+) -> Result<(), EditFailure>
+    requires reads { DocumentReads (whole cursor.old) }
     requires value { IsValueText (text_of value.now.spelling) (value_tree value.now.value) }
-    ensures set { IfOk result (λ e. IsSetOn path.now target.now
-        (value_tree value.now.value) (text_of value.now.spelling) document e) }
-    ensures missing { IfErr result (λ e.
-        MissesIf (value_at target.now (document_says document) path.now ≡ None) e) }
+    ensures path { OnOk result (path_of cursor.new ≡ path_of cursor.old) }
+    ensures set { OnOk result (IsSetOn (path_of cursor.old) target.now (value_tree value.now.value)
+        (text_of value.now.spelling) (whole cursor.old) (whole cursor.new)) }
+    ensures missing { IfErr result (MissesIf (value_at target.now
+        (document_data (whole cursor.old)) (path_of cursor.old) ≡ None)) }
 {
-    let at = value_place(alloc, &document, path, target)?;
+    let index = cursor.node()?;
+    let at = value_place(alloc, &cursor.block.document, index, target)?;
     let change = Change::SetValue(at, value.clone()?);
-    Ok(change_at(alloc, document, path, change)?)
+    Ok(change_in(alloc, &mut cursor.block.document, index, change)?)
 }
 
-/// The place of the entry that the target names in the node at the path.
+/// The place of the entry that the target names in the node at the index.
 fn value_place(
     alloc: Global,
-    document: &KdlDocument,
-    path: &[usize],
+    block: &KdlDocument,
+    index: usize,
     target: &Target,
 ) -> Result<usize, EditFailure>
-    ensures found { IfOk result (λ i. (n : KdlNode) × (held_at path.now document.now ≡ Some n)
+    requires there { index < length (nodes_of block.now) }
+    ensures found { IfOk result (λ i. (n : KdlNode) × (slice_get (nodes_of block.now) index ≡ Some n)
         × (place_of_target target.now (entries_of n) ≡ Some i)) }
-    ensures missing { IfErr result (λ e.
-        MissesIf (value_at target.now (document_says document.now) path.now ≡ None) e) }
+    ensures missing { IfErr result (MissesIf ((n : KdlNode)
+        × (slice_get (nodes_of block.now) index ≡ Some n)
+        × (place_of_target target.now (entries_of n) ≡ None))) }
 {
-    let Some(node) = node_at(document, path) else {
-        return Err(EditFailure::Missing(Missing::Selection));
-    };
+    let node = &block.nodes()[index];
     match entry_place(node.entries(), target) {
         Some(at) => Ok(at),
         None => Err(EditFailure::Missing(missing_entry(alloc, node, target)?)),
     }
 }
 
-/// Returns the document without what the target names at each of the paths. The last path is first, so that the others
-/// stay valid.
+/// Returns the document without what the target names at each of the paths.
 fn remove_at_paths(
     alloc: Global,
     document: KdlDocument,
-    paths: &[Vec<usize>],
+    turns: Vec<Turn>,
     target: &Target,
 ) -> Result<KdlDocument, EditFailure>
-    requires ordered { AllPairs IsBefore (paths_of paths.now) }
+    requires ordered { AllPairs IsBefore (paths_back turns.items) }
     requires reads { DocumentReadsBack document }
-    ensures removed { IfOk result (λ e.
-        IsRemovedOnEach (paths_of paths.now) target.now document e) }
-    ensures missing { IfErr result (λ e. MissesIf ((p : Path) × Contains (paths_of paths.now) p
+    ensures removed { IfOk result (λ e. IsRemovedOnEach (paths_back turns.items) target.now
+        (document_tree document) (document_tree e)) }
+    ensures missing { IfErr result (λ e. MissesIf ((p : Path) × Contains (paths_back turns.items) p
         × (named_node target.now (document_says document) p ≡ None)) e) }
 {
-    let mut document = document;
-    let mut rest = paths;
-    while let Some((path, before)) = rest.split_last() {
-        document = remove_at_path(alloc, document, path, target)?;
-        rest = before;
+    let mut cursor = Cursor::over(alloc, document);
+    let mut turns = turns;
+    while let Some(turn) = turns.pop() {
+        cursor.turn(alloc, &turn)?;
+        remove_target(alloc, &mut cursor, target)?;
     }
-    Ok(document)
+    Ok(cursor.close()?)
 }
 
-/// Returns the document without the node at the path, or without the entry of it that the target names.
-fn remove_at_path(
-    alloc: Global,
-    document: KdlDocument,
-    path: &[usize],
-    target: &Target,
-) -> Result<KdlDocument, EditFailure>
-    requires reads { DocumentReadsBack document }
-    ensures removed { IfOk result (λ e. IsRemovedOnEach (path.now ∷ []) target.now document e) }
-    ensures missing { IfErr result (λ e.
-        MissesIf (named_node target.now (document_says document) path.now ≡ None) e) }
+/// Removes the node at the path of the cursor, or the entry of it that the target names.
+fn remove_target(alloc: Global, cursor: &mut Cursor, target: &Target) -> Result<(), EditFailure>
+    requires reads { DocumentReads (whole cursor.old) }
+    ensures path { OnOk result (path_of cursor.new ≡ path_of cursor.old) }
+    ensures removed { OnOk result (IsRemovedOnEach (path_of cursor.old ∷ []) target.now
+        (whole cursor.old) (whole cursor.new)) }
+    ensures missing { IfErr result (MissesIf (named_node target.now
+        (document_data (whole cursor.old)) (path_of cursor.old) ≡ None)) }
 {
-    let place = removed_place(alloc, &document, path, target)?;
-    remove_at(alloc, document, path, place)
-}
-
-/// The place of the entry that the target names in the node at the path, or `None` for the node itself.
-fn removed_place(
-    alloc: Global,
-    document: &KdlDocument,
-    path: &[usize],
-    target: &Target,
-) -> Result<Option<usize>, EditFailure>
-    ensures found { IfOk result (λ o. (n : KdlNode) × (held_at path.now document.now ≡ Some n)
-        × IsNamed target.now n o) }
-    ensures missing { IfErr result (λ e.
-        MissesIf (named_node target.now (document_says document.now) path.now ≡ None) e) }
-{
-    match node_at(document, path) {
-        Some(node) => named_place(alloc, node, target),
-        None => Err(EditFailure::Missing(Missing::Selection)),
+    let index = cursor.node()?;
+    let node = &cursor.block.document.nodes()[index];
+    match named_place(alloc, node, target)? {
+        Some(at) => {
+            let change = Change::RemoveEntry(at);
+            Ok(change_in(alloc, &mut cursor.block.document, index, change)?)
+        }
+        None => Ok(cursor.remove(alloc, index)?),
     }
 }

@@ -24,6 +24,7 @@
 
 mod change;
 mod create;
+mod cursor;
 mod each;
 mod failure;
 mod insertion;

@@ -85,7 +85,7 @@ pub(crate) fn named_place(
 }
 
 /// Returns the document without the entry at the place, of the node at the indices, or without that node.
-pub(crate) fn remove_at(
+fn remove_at(
     alloc: Global,
     document: KdlDocument,
     indices: &[usize],

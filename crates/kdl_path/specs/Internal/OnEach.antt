@@ -1,10 +1,11 @@
 -- A document after an edit at each of some paths of indices.
-use Rattle.std.specs.Prelude.{◌≡◌, ℕ, List, [], ◌∷◌, Contains, IsSome, Some, map, Vec}
-use Rattle.std.specs.declared.alloc.Global.{Global}
-use Rattle.kdl.specs.Words.{DocumentReadsBack, Nodes, Text, Value, document_prints, document_says, said_without}
-use Rattle.kdl.specs.declared.document.KdlDocument.{KdlDocument}
+use Rattle.std.specs.Prelude.{◌≡◌, ℕ, List, [], ◌∷◌, Contains, IsSome, Some, reverse}
+use Rattle.kdl.specs.Words.{Document, Nodes, Text, Value, document_data, print_document, said_without}
+use Rattle.kdl_grammar.specs.ReadsBack.{DocumentReads}
 use Rattle.c_calls.specs.Entries.{IsValueText}
 use Rattle.kdl_query.specs.Selects.{Path}
+use Rattle.kdl_query.specs.Turns.{paths_from}
+use Rattle.kdl_query.specs.declared.find.Turn.{Turn}
 use Rattle.kdl_path.specs.Each.{AreExchanged, named_node, value_at}
 use Rattle.kdl_path.specs.Edits.{IsExchangedAt, node_with_value, node_without_entry, with_block, with_nth}
 use Rattle.kdl_path.specs.declared.path.Target.{Target}
@@ -35,28 +36,28 @@ abbrev pub edited_each : Edit → List Path → Nodes → Nodes
 edited_each f [] x = x
 edited_each f (p ∷ ps) x = edited f p (edited_each f ps x)
 
--- paths in memory
-abbrev pub paths_of : List (Vec ℕ Global) → List Path
-paths_of ps = map (λ p. p.items) ps
+-- the paths to which turns lead, in the order of the document; the turn that is taken first is last, and leads to the last path
+abbrev pub paths_back : List Turn → List Path
+paths_back ts = reverse (paths_from [] (reverse ts))
 
 -- e reads back, and is d with another value for the entry of a target in the node at a path: in its data, and in its text, in that spelling
-pub record IsSetOn (p : Path) (t : Target) (v : Value) (given : Text) (d e : KdlDocument) : Type 0 where
-  pub reads : DocumentReadsBack e
-  pub says : document_says e ≡ edited (setting t v) p (document_says d)
+pub record IsSetOn (p : Path) (t : Target) (v : Value) (given : Text) (d e : Document) : Type 0 where
+  pub reads : DocumentReads e
+  pub says : document_data e ≡ edited (setting t v) p (document_data d)
   pub was : Text
-  pub former : (w : Value) → value_at t (document_says d) p ≡ Some w → IsValueText was w
-  pub bytes : IsExchangedAt (λ w. edited (setting t w) p (document_says d)) was given (document_prints d) (document_prints e)
-  pub there : IsSome (value_at t (document_says d) p)
+  pub former : (w : Value) → value_at t (document_data d) p ≡ Some w → IsValueText was w
+  pub bytes : IsExchangedAt (λ w. edited (setting t w) p (document_data d)) was given (print_document d 0) (print_document e 0)
+  pub there : IsSome (value_at t (document_data d) p)
 
 -- the same at each of the paths
-pub record IsSetOnEach (ps : List Path) (t : Target) (v : Value) (given : Text) (d e : KdlDocument) : Type 0 where
-  pub reads : DocumentReadsBack e
-  pub says : document_says e ≡ edited_each (setting t v) ps (document_says d)
-  pub bytes : AreExchanged (document_says d) t v given ps (document_prints d) (document_prints e)
-  pub there : (p : Path) → Contains ps p → IsSome (value_at t (document_says d) p)
+pub record IsSetOnEach (ps : List Path) (t : Target) (v : Value) (given : Text) (d e : Document) : Type 0 where
+  pub reads : DocumentReads e
+  pub says : document_data e ≡ edited_each (setting t v) ps (document_data d)
+  pub bytes : AreExchanged (document_data d) t v given ps (print_document d 0) (print_document e 0)
+  pub there : (p : Path) → Contains ps p → IsSome (value_at t (document_data d) p)
 
 -- e reads back, and its data are those of d without what a target names at each path, which is there
-pub record IsRemovedOnEach (ps : List Path) (t : Target) (d e : KdlDocument) : Type 0 where
-  pub reads : DocumentReadsBack e
-  pub says : document_says e ≡ edited_each (removing t) ps (document_says d)
-  pub there : (p : Path) → Contains ps p → IsSome (named_node t (document_says d) p)
+pub record IsRemovedOnEach (ps : List Path) (t : Target) (d e : Document) : Type 0 where
+  pub reads : DocumentReads e
+  pub says : document_data e ≡ edited_each (removing t) ps (document_data d)
+  pub there : (p : Path) → Contains ps p → IsSome (named_node t (document_data d) p)

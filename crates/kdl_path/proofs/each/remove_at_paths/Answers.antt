@@ -1,25 +1,54 @@
-use Rattle.std.proofs.Common.{◌≡◌, ◌++◌, ◌∷◌, [], refl}
-use Rattle.kdl_path.specs.Internal.OnEach.{paths_of}
+use Rattle.std.proofs.Common.{rules, ◌≡◌, ◌++◌, ◌∷◌, [], Contains, None, option_and_then, reverse, ap, ◌∙◌, sym, subst}
+use Rattle.kdl.specs.Words.{document_data, document_says, document_tree}
+use Rattle.kdl_grammar.specs.Tree.{Document}
+use Rattle.kdl_query.specs.Selects.{Path, node_at}
+use Rattle.kdl_query.specs.Turns.{paths_from, turned}
+use Rattle.kdl_path.specs.Each.{named_node}
+use Rattle.kdl_path.specs.Edits.{with_target}
+use Rattle.kdl_path.specs.Internal.Cursor.{path_of, whole}
+use Rattle.kdl_path.specs.Internal.OnEach.{IsRemovedOnEach, paths_back}
 use Rattle.kdl_path.proofs.Failing.{err_is, misses}
-use Rattle.kdl_path.proofs.Selected.{removal_begins, removal_goes, removal_misses, split_paths}
+use Rattle.kdl_path.proofs.Selected.{IsRemovedSo, removal_goes, removal_misses, split_back}
 use Rattle.kdl_path.proofs.each.remove_at_paths.Goals as goal
 
-pub loop-path-init : goal.loop-path-init
-loop-path-init c = removal_begins (paths_of c.args.paths.now) (paths_of c.args.paths.now) c.args.target.now c.args.document refl c.requires.reads
+pub returns-in_err-turn-clause-missing : goal.returns-in_err-turn-clause-missing
+returns-in_err-turn-clause-missing c =
+    let t = c.args.target.now in
+    let all = paths_back c.args.turns.items in
+    let o = c.loop-turn.cursor in
+    let p = turned (path_of o) c.in-Some.turn in
+    let taken : c.loop-turn.turns.items ≡ c.pop.new.self.items ++ c.in-Some.turn ∷ [] = search rules in
+    let miss : node_at p (document_data (whole o)) ≡ None → (q : Path) × Contains all q × (named_node t (document_says c.args.document) q ≡ None) =
+    λ h. removal_misses all (reverse (paths_from (path_of o) (reverse c.loop-turn.turns.items))) (reverse (paths_from p (reverse c.pop.new.self.items))) p t (document_tree c.args.document) (whole o) c.requires.ordered
+    (split_back c.loop-turn.turns.items c.pop.new.self.items c.in-Some.turn (path_of o) taken) c.loop-turn.invariant (ap (option_and_then (with_target t)) h) in
+    err_is c.from_residual.result _ _ c.from_residual.ensures.1 (misses _ miss c.in_err-turn.ensures.missing)
 
-pub loop-path-preserved : goal.loop-path-preserved
-loop-path-preserved c =
-    let p = c.deref.result.now in
-    let rest = c.loop-path.rest.now in
-    let before = c.in-Some.before.now in
-    let split : paths_of rest ≡ paths_of before ++ p ∷ [] = split_paths rest before c.in-Some.path.now p c.in-Some.ensures.cases.0 c.deref.ensures.value in
-    removal_goes (paths_of c.args.paths.now) (paths_of rest) (paths_of before) p c.args.target.now c.args.document c.loop-path.document c.in_ok-document.document c.requires.ordered split c.loop-path.invariant c.in_ok-document.ensures.removed
+pub returns-in_err-remove_target-clause-missing : goal.returns-in_err-remove_target-clause-missing
+returns-in_err-remove_target-clause-missing c =
+    let t = c.args.target.now in
+    let all = paths_back c.args.turns.items in
+    let o = c.loop-turn.cursor in
+    let n = c.turn.new.self in
+    let p = turned (path_of o) c.in-Some.turn in
+    let taken : c.loop-turn.turns.items ≡ c.pop.new.self.items ++ c.in-Some.turn ∷ [] = search rules in
+    let miss : named_node t (document_data (whole n)) (path_of n) ≡ None → (q : Path) × Contains all q × (named_node t (document_says c.args.document) q ≡ None) =
+    λ h. removal_misses all (reverse (paths_from (path_of o) (reverse c.loop-turn.turns.items))) (reverse (paths_from p (reverse c.pop.new.self.items))) p t (document_tree c.args.document) (whole o) c.requires.ordered
+    (split_back c.loop-turn.turns.items c.pop.new.self.items c.in-Some.turn (path_of o) taken) c.loop-turn.invariant
+    (ap (λ q. named_node t (document_data (whole o)) q) (sym c.in_ok-turn.ensures.path) ∙ ap (λ (x : Document). named_node t (document_data x) (path_of n)) (sym c.in_ok-turn.ensures.whole) ∙ h) in
+    err_is c.from_residual-in_err-remove_target.result _ _ c.from_residual-in_err-remove_target.ensures.1 (misses _ miss c.in_err-remove_target.ensures.missing)
 
-pub returns-in_err-document-clause-missing : goal.returns-in_err-document-clause-missing
-returns-in_err-document-clause-missing c =
-    let p = c.deref.result.now in
-    let rest = c.loop-path.rest.now in
-    let before = c.in-Some.before.now in
-    let split : paths_of rest ≡ paths_of before ++ p ∷ [] = split_paths rest before c.in-Some.path.now p c.in-Some.ensures.cases.0 c.deref.ensures.value in
-    err_is c.from_residual.result _ _ c.from_residual.ensures.1
-    (misses _ (removal_misses (paths_of c.args.paths.now) (paths_of rest) (paths_of before) p c.args.target.now c.args.document c.loop-path.document c.requires.ordered split c.loop-path.invariant) c.in_err-document.ensures.missing)
+pub loop-turn-preserved : goal.loop-turn-preserved
+loop-turn-preserved c =
+    let t = c.args.target.now in
+    let all = paths_back c.args.turns.items in
+    let d = document_tree c.args.document in
+    let o = c.loop-turn.cursor in
+    let n = c.turn.new.self in
+    let f = whole c.remove_target.new.cursor in
+    let p = turned (path_of o) c.in-Some.turn in
+    let taken : c.loop-turn.turns.items ≡ c.pop.new.self.items ++ c.in-Some.turn ∷ [] = search rules in
+    let one : IsRemovedOnEach (p ∷ []) t (whole o) f =
+    subst (λ (q : Path). IsRemovedOnEach (q ∷ []) t (whole o) f) c.in_ok-turn.ensures.path (subst (λ (x : Document). IsRemovedOnEach (path_of n ∷ []) t x f) c.in_ok-turn.ensures.whole c.in_ok-remove_target.ensures.removed) in
+    subst (λ (q : Path). IsRemovedSo all (reverse (paths_from q (reverse c.pop.new.self.items))) t d f) (sym (c.in_ok-remove_target.ensures.path ∙ c.in_ok-turn.ensures.path))
+    (removal_goes all (reverse (paths_from (path_of o) (reverse c.loop-turn.turns.items))) (reverse (paths_from p (reverse c.pop.new.self.items))) p t d (whole o) f c.requires.ordered
+    (split_back c.loop-turn.turns.items c.pop.new.self.items c.in-Some.turn (path_of o) taken) c.loop-turn.invariant one)
