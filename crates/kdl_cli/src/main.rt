@@ -17,7 +17,7 @@ use cli::request::{Request, run};
 use cli::status::Status;
 use lsp::serve;
 use std::cell::RefCell;
-use std::io::{BufWriter, ErrorKind};
+use std::io::{BufWriter, ErrorKind, Write};
 use std::process::ExitCode;
 use std::{env, io};
 use watched::{Retrying, Watched};
@@ -95,9 +95,19 @@ fn run_request(rt: &HostRuntime, request: &Request<'_>, replaced: Vec<String>, l
     run(rt.alloc(), request, &mut world).code()
 }
 
-/// Serves an editor over the standard input and output, and returns the exit status.
+/// Serves an editor over the standard input and output, says why it ended otherwise than by `exit` after `shutdown`, and
+/// returns the exit status.
 fn serve_editor(rt: &HostRuntime) -> io::Result<u8> {
     let mut output = BufWriter::new(rt.alloc(), rt.stdout())?;
-    let is_shut_down = serve(rt.alloc(), &mut rt.stdin(), &mut output)?;
-    Ok(if is_shut_down { 0 } else { 1 })
+    let served = serve(rt.alloc(), &mut rt.stdin(), &mut output);
+    if served.is_err() {
+        let _ = output.flush();
+    }
+    match served?.why() {
+        Some(why) => {
+            let _ = eprintln!(rt; "kdl: {why}");
+            Ok(1)
+        }
+        None => Ok(0),
+    }
 }

@@ -10,7 +10,7 @@ use Rattle.json.specs.Print.{print, print_from, escape_byte}
 use Rattle.json.specs.Token.{Token, end_object}
 use Rattle.json.specs.Tree.{HasNumbers, depth, json_tokens}
 use Rattle.lsp.specs.Faults.{IsFaultsNotice}
-use Rattle.lsp.specs.Replies.{IsGreeting, IsLog, IsReplyTo, IsReplyWith, error_code, error_json, greeting_json, reply_json}
+use Rattle.lsp.specs.Replies.{IsGreeting, IsNotice, IsReplyTo, IsReplyWith, error_code, error_json, greeting_json, reply_json}
 use Rattle.lsp_text.specs.declared.position.Encoding.{Encoding}
 use Rattle.lsp_text.specs.declared.position.Encoding.TheVariants.{Utf8, Utf32}
 use Rattle.lsp.proofs.Replying.{bracket}
@@ -28,10 +28,10 @@ with_byte id m name j r = ap (λ b. get_or b 18 0) r.2.1
 pub reply_byte : (id : Json) (m : String Global) → IsReplyTo id m → get_or (string_bytes m) 18 0 ≡ 105
 reply_byte id m = of_reply id m _ (with_byte id m)
 
--- that of `method` in a message for the log
-pub log_byte : (m : String Global) → IsLog m → get_or (string_bytes m) 18 0 ≡ 109
+-- that of `method` in a notification
+pub notice_byte : (m : String Global) → IsNotice m → get_or (string_bytes m) 18 0 ≡ 109
 unfolding print_from escape_byte
-log_byte m r = ap (λ b. get_or b 18 0) r.2
+notice_byte m (method, more, is) = ap (λ b. get_or b 18 0) is
 
 -- the letter of an identifier
 with_a : (m : String Global) (name : List ℕ) (j : Json) → IsReplyWith name j (json.string (codes "a")) m → get_or (string_bytes m) 23 0 ≡ 97

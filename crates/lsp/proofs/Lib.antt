@@ -26,3 +26,5 @@ pub mod Answering
 pub mod Refused
 -- Where writers of JSON are.
 pub mod Nesting
+-- Requests that are read token by token.
+pub mod Asking

@@ -33,7 +33,7 @@ fault_taken e f text other ds i d ts us inside at same alike all is =
     let more : take i ds ++ d ∷ [] ≡ take (i + 1) ds = ap (λ x. take i ds ++ x ∷ []) at ∙ sym (take_more ds i d inside) in
     subst (λ l. AreDiagnostics e text l (ts ++ us)) more (one_more_fault e text (take i ds) d ts us all here)
 
-abbrev EachBy : State → String Global → List (String Global) → List (String Global) → Option (Option ℤ × List ℕ) → Type 0
+abbrev pub EachBy : State → String Global → List (String Global) → List (String Global) → Option (Option ℤ × List ℕ) → Type 0
 EachBy s u uris ms k = MatchOption k (PublishEach s uris ms)
     (λ k. (m : String Global) × (rest : List (String Global)) × (ms ≡ m ∷ rest) × IsFaultsNotice s.client.encoding (string_bytes u) k.0 k.1 m × PublishEach s uris rest)
 

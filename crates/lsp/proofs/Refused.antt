@@ -1,24 +1,25 @@
 -- Replies to requests to format that are refused.
-use Rattle.std.proofs.Common.{arith, ◌≡◌, ◌++◌, ◌∷◌, ◌∙◌, [], ℕ, zero, suc, List, Option, None, Some, Result, Ok, Err, String, Global, Contains, IsSomeAnd, MatchResult, ap, chars, codes, get_or, inl, inr, min, refl, string_bytes, subst, sym}
+use Rattle.std.proofs.Common.{arith, ◌≡◌, ◌++◌, ◌∷◌, ◌∙◌, [], ℕ, List, Option, None, Some, Result, Ok, Err, String, Global, IsSomeAnd, MatchResult, ap, chars, codes, get_or, inl, inr, min, refl, string_bytes, subst, sym}
 use Rattle.std.proofs.lemmas.List.{append_cancel_left, append_cancel_right}
-use Rattle.std.specs.Str.Parse.{ParsesUnsigned}
 use Rattle.json.specs.Find.{get}
 use Rattle.json.specs.Json as json
 use Rattle.json.specs.Json.{Json, no_items}
 use Rattle.json.specs.Print.{print, print_from, escape_byte}
 use Rattle.json.specs.Tree.{json_tokens}
-use Rattle.lsp.specs.Contents.{Answers, IsAbout, IsFormatted, text_in}
+use Rattle.lsp.specs.Contents.{IsAbout, IsAnswer, IsFormatted, text_in}
 use Rattle.lsp.specs.Formatting.{HasSize, IsFormatting, IsIndent, IsLaidOut}
 use Rattle.lsp.specs.Messages.{AsksFor}
 use Rattle.lsp.specs.Replies.{Content, IsReplyFor, IsReplyWith, error_code, error_json, reply_json}
 use Rattle.lsp.specs.Turns.{Takes}
 use Rattle.lsp.specs.declared.write.Wrong.{Wrong}
-use Rattle.lsp_documents.specs.Notes.{IsNumber}
+use Rattle.lsp_documents.specs.Notes.{IsNatural, IsNumber}
 use Rattle.lsp_documents.specs.declared.state.Phase.TheVariants.{Running}
 use Rattle.lsp_documents.specs.declared.state.State.{State}
 use Rattle.lsp_text.specs.declared.position.Encoding.{Encoding}
+use Rattle.lsp_documents.proofs.Values.{one_natural}
 use Rattle.lsp.proofs.Edits.{some_edits}
 use Rattle.lsp.proofs.Replying.{reply_front, reply_print}
+use Rattle.lsp.proofs.Sending.{alone}
 
 whole : (name : List ℕ) (j : Json) (m : String Global) → IsReplyWith name j (json.string (codes "a")) m → string_bytes m ≡ print (reply_front (json.string (codes "a")) name) ++ (print (json_tokens j) ++ 125 ∷ [])
 whole name j m (i, is, (numbers, e)) =
@@ -58,18 +59,15 @@ no_content s params text (Ok out) m is other (inr about) reply empty =
     let f : IsFormatted s.client.encoding params text (Ok out) = subst P is about in
     no_edits s.client.encoding f.0 text (other f.0) (subst (λ b. IsFormatting s.client.encoding f.0 text b) (reply.1.1 ∙ same_result reply.0 (json.array no_items) m reply.2 empty ∙ none_print) f.2)
 
-only : (m n : String Global) → Contains (m ∷ []) n → m ≡ n
-only m n (zero, inside, is) = is
-only m n (suc k, inside, is) = absurd (omega (arith, inside))
-
 -- a server does not reply so to a request to format a text whose layout differs
 pub not_unformatted : (old new : State) (message text : List ℕ) (params : Json) (m : String Global) → old.phase ≡ Running → AsksFor message (json.string (codes "a")) (codes "textDocument/formatting") params
     → text_in old params ≡ Ok text → ((indent : Option ℕ) (laid : List ℕ) → IsLaidOut indent text laid → chars text ≡ chars laid → ⊥)
     → IsReplyWith (codes "result") (json.array no_items) (json.string (codes "a")) m → Takes old message (Some (m ∷ [])) new → ⊥
-unfolding Answers
 not_unformatted old new message text params m running asks is other empty takes =
-    let a = takes.answered running (json.string (codes "a")) (codes "textDocument/formatting") params asks in
-    no_content old params text a.2.0 m is other (a.2.1.formatting refl) (subst (λ n. IsReplyFor (json.string (codes "a")) a.2.0 n) (sym (only m a.0 a.1)) a.2.2) empty
+    let id = json.string (codes "a") in
+    let method = codes "textDocument/formatting" in
+    let a = alone (IsAnswer old id method params) m (takes.answered running id method params asks) in
+    no_content old params text a.0 m is other (a.1.formatting refl) a.2 empty
 
 -- ---- a request has one indent
 
@@ -78,7 +76,7 @@ one_of None P Q x y each p q = elim p [ ]
 one_of (Some a) P Q x y each p q = each a p q
 
 one_number : (name : List ℕ) (j : Json) (m n : ℕ) → IsNumber name j m → IsNumber name j n → m ≡ n
-one_number name j m n = one_of _ (λ s. ParsesUnsigned {E = List ℕ} 64 10 s (Ok m)) (λ s. ParsesUnsigned {E = List ℕ} 64 10 s (Ok n)) m n (λ s p q. p.1 ∙ sym q.1)
+one_number name j m n = one_of _ (λ s. IsNatural s m) (λ s. IsNatural s n) m n (λ s p q. one_natural s m n p q)
 
 one_size : (params : Json) (m n : ℕ) → HasSize params m → HasSize params n → m ≡ n
 one_size params m n = one_of (get (codes "options") params) (λ j. IsNumber (codes "tabSize") j m) (λ j. IsNumber (codes "tabSize") j n) m n (λ j. one_number (codes "tabSize") j m n)

@@ -23,6 +23,17 @@ one_json i j text p q =
 abbrev pub reply_front : Json → List ℕ → List Token
 reply_front i name = message_head ++ key (codes "id") ∷ (json_tokens i ++ key name ∷ [])
 
+-- the tokens of a reply
+reply_split : (i : Json) (name : List ℕ) (j : Json) → json_tokens (reply_json i name j) ≡ reply_front i name ++ (json_tokens j ++ end_object ∷ [])
+reply_split i name j = ap (λ x. message_head ++ key (codes "id") ∷ x) (sym (append_assoc (json_tokens i) (key name ∷ []) (json_tokens j ++ end_object ∷ [])))
+
+-- those of its front, its content and its end, one after the other
+pub reply_tokens : (ts us vs ws xs : List Token) (name : List ℕ) (i j : Json) → ts ≡ message_head → us ≡ ts ++ key (codes "id") ∷ json_tokens i → vs ≡ us ++ key name ∷ []
+    → ws ≡ vs ++ json_tokens j → xs ≡ ws ++ end_object ∷ [] → xs ≡ json_tokens (reply_json i name j)
+reply_tokens ts us vs ws xs name i j h k l p q =
+    let front : vs ≡ reply_front i name = l ∙ ap (λ x. x ++ key name ∷ []) (k ∙ ap (λ x. x ++ key (codes "id") ∷ json_tokens i) h) in
+    q ∙ ap (λ x. x ++ end_object ∷ []) (p ∙ ap (λ x. x ++ json_tokens j) front) ∙ append_assoc (reply_front i name) (json_tokens j) (end_object ∷ []) ∙ sym (reply_split i name j)
+
 -- the bytes of a bracket
 pub bracket : (c : Bool) → print_from c (end_object ∷ []) ≡ 125 ∷ []
 unfolding print_from
@@ -37,10 +48,9 @@ after_key c (t ∷ ts) name = after_key (ends t) ts name
 pub reply_print : (i : Json) (name : List ℕ) (j : Json) → print (json_tokens (reply_json i name j)) ≡ print (reply_front i name) ++ (print (json_tokens j) ++ 125 ∷ [])
 reply_print i name j =
     let rest = json_tokens j ++ end_object ∷ [] in
-    let front : json_tokens (reply_json i name j) ≡ reply_front i name ++ rest = ap (λ x. message_head ++ key (codes "id") ∷ x) (sym (append_assoc (json_tokens i) (key name ∷ []) rest)) in
     let split = print_from-append false (reply_front i name) rest in
     let at_key = after_key false (json_tokens i) name in
-    ap print front ∙ split ∙ ap (λ c. print (reply_front i name) ++ print_from c rest) at_key
+    ap print (reply_split i name j) ∙ split ∙ ap (λ c. print (reply_front i name) ++ print_from c rest) at_key
     ∙ ap (λ x. print (reply_front i name) ++ x) (print_from-append false (json_tokens j) (end_object ∷ []) ∙ ap (λ x. print (json_tokens j) ++ x) (bracket _))
 
 -- the bytes of a reply whose front, content and end are written one after the other

@@ -1,5 +1,5 @@
 -- The lemmas that the functions of a file cite.
-use Rattle.lsp.proofs.Sending.{answers_pushed, kept, kept_one, kept_pushed, logs_pushed, replies_pushed}
+use Rattle.lsp.proofs.Sending.{log_is_notice, logs_last, logs_of_alone, one_notice, reply_alone, reply_last}
 
--- for src/message.rt and src/publish.rt
-pub ruleset sending = (answers_pushed, kept, kept_one, kept_pushed, logs_pushed, replies_pushed)
+-- for src/message.rt
+pub ruleset sending = (log_is_notice, logs_last, logs_of_alone, one_notice, reply_alone, reply_last)

@@ -1,22 +1,24 @@
 -- Messages that are sent.
-use Rattle.std.proofs.Common.{arith, ◌≡◌, ◌⊎◌, ◌++◌, ◌∷◌, ◌<◌, ◌∙◌, [], ℕ, List, None, Some, String, Vec, Global, Contains, IfSome, IsNone, IsSome, IsSomeAnd, MatchOption, OnOk, Result, Ok, Err, ap, IsErr, inl, inr, refl, subst, sym}
+use Rattle.std.proofs.Common.{arith, suc, ◌≡◌, ◌⊎◌, ◌++◌, ◌∷◌, ◌<◌, ◌+◌, ◌∙◌, [], ℕ, All, List, Option, None, Some, String, Vec, Global, Contains, IfOk, IfSome, IsNone, IsSome, IsSomeAnd, MatchOption, OnOk, Result, Ok, Err, ap, codes, drop, get_or, IsErr, inl, inr, length, length-append, refl, string_bytes, subst, sym}
 use Rattle.std.specs.BTreeMap.{IsEmpty, get_by_text}
-use Rattle.std.proofs.lemmas.List.{append_assoc}
-use Rattle.std.proofs.lemmas.List.Elements.{Contains-append_left, Contains-push}
+use Rattle.std.proofs.lemmas.List.{append-nil, append_assoc}
+use Rattle.std.proofs.lemmas.List.Elements.{All-append, All-cons, All-nil, Contains-append_left, Contains-push}
 use Rattle.json.specs.declared.value.Value.{fold-roll-Value}
 use Rattle.json.specs.declared.value.Value.TheOpen.{Value-F}
 use Rattle.json.specs.declared.value.Value.TheVariants.{Null, rolls-Null}
-use Rattle.json.specs.Json.{Json, null}
+use Rattle.json.specs.Json.{Json, document, null}
 use Rattle.json.specs.Value.{value_view, view_step}
-use Rattle.lsp_documents.specs.Notes.{IsOf, Note, Opened, Changed, Closed, after}
-use Rattle.lsp_documents.specs.Outcomes.{IsTaken}
+use Rattle.lsp_documents.specs.Notes.{Agrees, IsOf, Texts, Note, Opened, Changed, Closed, after}
+use Rattle.lsp_documents.specs.Outcomes.{IsTaken, MarksDue}
 use Rattle.lsp_documents.specs.States.{SessionStays, is_over}
 use Rattle.lsp_documents.specs.declared.state.Phase.TheVariants.{New, Running}
 use Rattle.lsp_documents.specs.declared.state.State.{State}
-use Rattle.lsp_text.specs.declared.position.Encoding.{Encoding}
-use Rattle.lsp.specs.Contents.{Answers, IsAnswer}
-use Rattle.lsp.specs.Replies.{AreIn, Fails, Greets, IsFailure, IsGreeting, IsLog, IsReplyTo, Logs, Replies}
-use Rattle.lsp.specs.Turns.{Takes, sent_of}
+use Rattle.lsp.specs.Contents.{IsAnswer}
+use Rattle.lsp.specs.Faults.{IsFaultsNotice, PublishEach, known_at, notice_end, notice_tokens}
+use Rattle.lsp.specs.Replies.{IsFailure, IsGreeting, IsLog, IsLogOf, IsLogWith, IsNotice, IsReplyTo, Logs, LogsOf, OneReply}
+use Rattle.lsp.specs.Messages.{AsksForIn, AsksIn, IsIgnored, StartsIn, TellsIn, method_of}
+use Rattle.lsp.specs.Turns.{Marks, Publishes, Takes, sent_of}
+use Rattle.lsp.proofs.Publishing.{EachBy}
 
 -- `null` as JSON
 pub null_is_null : value_view {A = Global} Null ≡ null
@@ -27,103 +29,114 @@ pub on_ok : {T E P : Type 0} (r : Result T E) → P → OnOk r P
 on_ok (Ok x) p = p
 on_ok (Err e) p = tt
 
--- no message, or one more
-pub kept : (ms : List (String Global)) → AreIn ms ms
-unfolding AreIn
-kept ms m has = has
+-- ---- one reply
 
-pub kept_pushed : (ls ms ns : List (String Global)) (m : String Global) → AreIn ls ms → ns ≡ ms ++ m ∷ [] → AreIn ls ns
-unfolding AreIn
-kept_pushed ls ms ns m a e n has = subst (λ l. Contains l n) (sym e) (Contains-append_left ms (m ∷ []) n (a n has))
+-- after notifications
+pub reply_last : (Is : String Global → Type 0) (ms ns : List (String Global)) (m : String Global) → ns ≡ ms ++ m ∷ [] → All IsNotice ms → Is m → OneReply Is ns
+unfolding OneReply
+reply_last Is ms ns m e all is = (ms, m, [], e, is, subst (All IsNotice) (sym (append-nil ms)) all)
 
-pub kept_one : (ms ns : List (String Global)) (m : String Global) → ns ≡ ms ++ m ∷ [] → AreIn ms ns
-kept_one ms ns m = kept_pushed ms ms ns m (kept ms)
+-- alone
+pub reply_alone : (Is : String Global → Type 0) (ns : List (String Global)) (m : String Global) → ns ≡ m ∷ [] → Is m → OneReply Is ns
+reply_alone Is ns m e is = reply_last Is [] ns m e (All-nil IsNotice) is
 
-pub replies_pushed : (id : Json) (ms ns : List (String Global)) (m : String Global) → ns ≡ ms ++ m ∷ [] → IsReplyTo id m → Replies id ns
-unfolding Replies
-replies_pushed id ms ns m e r = (m, subst (λ l. Contains l m) (sym e) (Contains-push ms m), r)
+-- before more notifications
+pub reply_more : (Is : String Global → Type 0) (ms ns ls : List (String Global)) → ns ≡ ms ++ ls → All IsNotice ls → OneReply Is ms → OneReply Is ns
+unfolding OneReply
+reply_more Is ms ns ls e all (before, m, rear, split, is, notices) = (
+  before,
+  m,
+  rear ++ ls,
+  e ∙ ap (λ xs. xs ++ ls) split ∙ append_assoc before (m ∷ rear) ls,
+  is,
+  subst (All IsNotice) (append_assoc before rear ls) (All-append IsNotice (before ++ rear) ls notices all),
+)
 
-pub logs_pushed : (ms ns : List (String Global)) (m : String Global) → ns ≡ ms ++ m ∷ [] → IsLog m → Logs ns
+-- of which something else is so
+pub reply_so : (Is Also : String Global → Type 0) (ms : List (String Global)) → ((m : String Global) → Is m → Also m) → OneReply Is ms → OneReply Also ms
+unfolding OneReply
+reply_so Is Also ms also (before, m, rear, split, is, notices) = (before, m, rear, split, also m is, notices)
+
+-- ---- notifications
+
+pub log_is_notice : (text : List ℕ) (m : String Global) → IsLogWith text m → IsNotice m
+log_is_notice text m (n, is) = (_, _, is)
+
+pub one_notice : (ns : List (String Global)) (m : String Global) → ns ≡ m ∷ [] → IsNotice m → All IsNotice ns
+one_notice ns m e is = subst (All IsNotice) (sym e) (All-cons IsNotice m [] is (All-nil IsNotice))
+
+each_by : (s : State) (u : String Global) (us ms : List (String Global)) (k : Option _) → ((ns : List (String Global)) → PublishEach s us ns → All IsNotice ns) → EachBy s u us ms k → All IsNotice ms
+each_by s u us ms None rest each = rest ms each
+each_by s u us ms (Some k) rest (m, ns, split, is, each) = subst (All IsNotice) (sym split) (All-cons IsNotice m ns (_, _, is.4) (rest ns each))
+
+-- what is published are notifications
+pub faults_are_notices : (s : State) (us ms : List (String Global)) → PublishEach s us ms → All IsNotice ms
+faults_are_notices s [] ms each = subst (All IsNotice) (sym each) (All-nil IsNotice)
+faults_are_notices s (u ∷ us) ms each = each_by s u us ms (known_at s (string_bytes u)) (faults_are_notices s us) each
+
+pub faults_sent : {E : Type 0} (old new : State) (r : Result (Vec (String Global) Global) E) (out : Vec (String Global) Global) → r ≡ Ok out → Publishes old (sent_of r) new → All IsNotice out.items
+faults_sent old new r out is p = let q = subst (λ x. Publishes old (sent_of x) new) is p in faults_are_notices old old.due.items out.items q.published.0
+
+-- ---- messages for the log
+
+pub logs_last : (ms ns : List (String Global)) (m : String Global) (text : List ℕ) → ns ≡ ms ++ m ∷ [] → IsLogWith text m → Logs ns
 unfolding Logs
-logs_pushed ms ns m e r = (m, subst (λ l. Contains l m) (sym e) (Contains-push ms m), r)
+logs_last ms ns m text e is = (m, subst (λ l. Contains l m) (sym e) (Contains-push ms m), (text, is))
 
-pub answers_pushed : (s : State) (id : Json) (method : List ℕ) (params : Json) (ms ns : List (String Global)) (m : String Global) → ns ≡ ms ++ m ∷ [] → IsAnswer s id method params m → Answers s id method params ns
-unfolding Answers
-answers_pushed s id method params ms ns m e r = (m, subst (λ l. Contains l m) (sym e) (Contains-push ms m), r)
+pub logs_of_alone : (ns : List (String Global)) (uri : List ℕ) (m : String Global) → ns ≡ m ∷ [] → IsLogOf uri m → LogsOf ns uri
+unfolding LogsOf
+logs_of_alone ns uri m e is = (m, subst (λ l. Contains l m) (sym e) (Contains-push [] m), is)
+
+logs_more : (ms ns ls : List (String Global)) → ns ≡ ms ++ ls → Logs ms → Logs ns
+unfolding Logs
+logs_more ms ns ls e (m, has, is) = (m, subst (λ l. Contains l m) (sym e) (Contains-append_left ms ls m has), is)
+
+logs_of_more : (ms ns ls : List (String Global)) (uri : List ℕ) → ns ≡ ms ++ ls → LogsOf ms uri → LogsOf ns uri
+unfolding LogsOf
+logs_of_more ms ns ls uri e (m, has, is) = (m, subst (λ l. Contains l m) (sym e) (Contains-append_left ms ls m has), is)
 
 -- some messages, and then others
 pub sent_next : (ks ls cs us vs : List (String Global)) → ls ≡ ks ++ us → cs ≡ ls ++ vs → cs ≡ ks ++ (us ++ vs)
 sent_next ks ls cs us vs p q = q ∙ ap (λ xs. xs ++ vs) p ∙ append_assoc ks us vs
 
--- more messages
-pub kept_on : (ls ms ns : List (String Global)) → AreIn ls ms → AreIn ms ns → AreIn ls ns
-unfolding AreIn
-kept_on ls ms ns a b m has = b m (a m has)
+-- the same documents, where more is told
+pub taken_on : (old new other : State) (Says Tells : List ℕ → Type 0) (note : Note) → other.open ≡ new.open → ((uri : List ℕ) → Says uri → Tells uri) → IsTaken old new Says note → IsTaken old other Tells note
+taken_on old new other Says Tells (Opened uri text) e f t = λ none. subst (λ o. IsSomeAnd (get_by_text o uri) (λ document. IsSome document.text)) (sym e) (t (λ says. none (f uri says)))
+taken_on old new other Says Tells (Changed uri changes) e f t = λ none was. subst (λ o. IsSomeAnd (get_by_text o uri) (λ document. IsSome document.text)) (sym e) (t (λ says. none (f uri says)) was)
+taken_on old new other Says Tells (Closed uri) e f t = subst (λ o. IsNone (get_by_text o uri)) (sym e) t
 
-pub replies_on : (id : Json) (ms ns : List (String Global)) → AreIn ms ns → Replies id ms → Replies id ns
-unfolding AreIn Replies
-replies_on id ms ns a r = (r.0, a r.0 r.1, r.2)
+pub marks_on : (old new : State) (Says Tells : List ℕ → Type 0) (note : Note) → ((uri : List ℕ) → Says uri → Tells uri) → MarksDue old new Says note → MarksDue old new Tells note
+marks_on old new Says Tells (Opened uri text) f m = λ none. m (λ says. none (f uri says))
+marks_on old new Says Tells (Changed uri changes) f m = λ none. m (λ says. none (f uri says))
+marks_on old new Says Tells (Closed uri) f m = tt
 
-pub logs_on : (ms ns : List (String Global)) → AreIn ms ns → Logs ms → Logs ns
-unfolding AreIn Logs
-logs_on ms ns a r = (r.0, a r.0 r.1, r.2)
+abbrev Started : Json → State → String Global → Type 0
+Started id s m = IsFailure id m ⊎ ((s.phase ≡ Running) × IsGreeting id s.client.encoding m)
 
-answers_on : (s : State) (id : Json) (method : List ℕ) (params : Json) (ms ns : List (String Global)) → AreIn ms ns → Answers s id method params ms → Answers s id method params ns
-unfolding AreIn Answers
-answers_on s id method params ms ns a r = (r.0, a r.0 r.1, r.2)
-
--- the same documents, where it is told as well that a text is not known
-pub taken_on : (old new other : State) (P Q : Type 0) (note : Note) → other.open ≡ new.open → (P → Q) → IsTaken old new P note → IsTaken old other Q note
-taken_on old new other P Q (Opened uri text) e f t = λ none. subst (λ o. IsSomeAnd (get_by_text o uri) (λ document. IsSome document.text)) (sym e) (t (λ p. none (f p)))
-taken_on old new other P Q (Changed uri changes) e f t = λ none was. subst (λ o. IsSomeAnd (get_by_text o uri) (λ document. IsSome document.text)) (sym e) (t (λ p. none (f p)) was)
-taken_on old new other P Q (Closed uri) e f t = subst (λ o. IsNone (get_by_text o uri)) (sym e) t
-
--- the messages that are sent, and others after them
-pub kept_more : (ms ns ls : List (String Global)) → ls ≡ ms ++ ns → AreIn ms ls
-unfolding AreIn
-kept_more ms ns ls e m has = subst (λ l. Contains l m) (sym e) (Contains-append_left ms ns m has)
-
--- so is the reply to `initialize`
-fails_on : (id : Json) (ms ns : List (String Global)) → AreIn ms ns → Fails id ms → Fails id ns
-unfolding AreIn Fails
-fails_on id ms ns a r = (r.0, a r.0 r.1, r.2)
-
-greets_on : (id : Json) (d e : Encoding) (ms ns : List (String Global)) → e ≡ d → AreIn ms ns → Greets id d ms → Greets id e ns
-unfolding AreIn Greets
-greets_on id d e ms ns is a r = (r.0, a r.0 r.1, subst (λ n. IsGreeting id n r.0) (sym is) r.2)
-
-started_on : (id : Json) (ms ns : List (String Global)) (new other : State) → other.phase ≡ new.phase → other.client ≡ new.client → AreIn ms ns
-    → Fails id ms ⊎ ((new.phase ≡ Running) × Greets id new.client.encoding ms) → Fails id ns ⊎ ((other.phase ≡ Running) × Greets id other.client.encoding ns)
-started_on id ms ns new other p k a (inl fails) = inl (fails_on id ms ns a fails)
-started_on id ms ns new other p k a (inr (phase, greets)) = inr (p ∙ phase, greets_on id new.client.encoding other.client.encoding ms ns (ap (λ c. c.encoding) k) a greets)
+started_on : (id : Json) (new other : State) → other.phase ≡ new.phase → other.client ≡ new.client → (m : String Global) → Started id new m → Started id other m
+started_on id new other p k m (inl fails) = inl fails
+started_on id new other p k m (inr (phase, greets)) = inr (p ∙ phase, subst (λ c. IsGreeting id c.encoding m) (sym k) greets)
 
 client_on : (old new other : State) → other.phase ≡ new.phase → other.client ≡ new.client → (new.client ≡ old.client) ⊎ ((old.phase ≡ New) × (new.phase ≡ Running))
     → (other.client ≡ old.client) ⊎ ((old.phase ≡ New) × (other.phase ≡ Running))
 client_on old new other p k (inl same) = inl (k ∙ same)
 client_on old new other p k (inr (early, running)) = inr (early, p ∙ running)
 
-pub fails_pushed : (id : Json) (ms ns : List (String Global)) (m : String Global) → ns ≡ ms ++ m ∷ [] → IsFailure id m → Fails id ns
-unfolding Fails
-fails_pushed id ms ns m e r = (m, subst (λ l. Contains l m) (sym e) (Contains-push ms m), r)
-
-pub greets_pushed : (id : Json) (d : Encoding) (ms ns : List (String Global)) (m : String Global) → ns ≡ ms ++ m ∷ [] → IsGreeting id d m → Greets id d ns
-unfolding Greets
-greets_pushed id d ms ns m e r = (m, subst (λ l. Contains l m) (sym e) (Contains-push ms m), r)
-
 -- a message is taken, and others are sent that change neither documents nor the session
-pub takes_on : (old new other : State) (message : List ℕ) (ms ns : List (String Global)) → other.open ≡ new.open → SessionStays new other → AreIn ms ns → Takes old message (Some ms) new → Takes old message (Some ns) other
-takes_on old new other message ms ns e (p, k) a t = record {
-  refused = λ none. (let r = t.refused none in (subst IsEmpty (sym e) r.0, (p ∙ r.1.0, k ∙ r.1.1), replies_on null ms ns a r.2, logs_on ms ns a r.3));
+pub takes_on : (old new other : State) (message : List ℕ) (ms ns ls : List (String Global)) → other.open ≡ new.open → SessionStays new other → ns ≡ ms ++ ls → All IsNotice ls → Takes old message (Some ms) new → Takes old message (Some ns) other
+takes_on old new other message ms ns ls e (p, k) a all t = record {
+  refused = λ none. (let r = t.refused none in (subst IsEmpty (sym e) r.0, (p ∙ r.1.0, k ∙ r.1.1), reply_more (IsReplyTo null) ms ns ls a all r.2, logs_more ms ns ls a r.3));
   told = λ running note texts tells agrees. subst (λ o. (uri : List ℕ) → IfSome (get_by_text o uri) (IsOf (after old.client.encoding note texts uri))) (sym e) (t.told running note texts tells agrees);
   untold = λ none texts agrees. subst (λ o. (uri : List ℕ) → IfSome (get_by_text o uri) (IsOf (texts uri))) (sym e) (t.untold none texts agrees);
   session = λ note tells. (let s = t.session note tells in (p ∙ s.0, k ∙ s.1));
   stays = λ uri changes tells. subst (λ o. MatchOption (get_by_text old.open uri) (IsNone (get_by_text o uri)) (λ d. IsSome (get_by_text o uri))) (sym e) (t.stays uri changes tells);
   others = λ is uri names. ap (λ o. get_by_text o uri) e ∙ t.others is uri names;
   all = λ quiet. e ∙ t.all quiet;
-  taken = λ running note tells. taken_on old new other (Logs ms) (Logs ns) note e (logs_on ms ns a) (t.taken running note tells);
-  replied = λ id asks. replies_on id ms ns a (t.replied id asks);
-  answered = λ running id method params asks. answers_on old id method params ms ns a (t.answered running id method params asks);
-  started = λ early id starts. started_on id ms ns new other p k a (t.started early id starts);
+  taken = λ running note tells. taken_on old new other (LogsOf ms) (LogsOf ns) note e (λ uri. logs_of_more ms ns ls uri a) (t.taken running note tells);
+  replied = λ id asks. reply_more (IsReplyTo id) ms ns ls a all (t.replied id asks);
+  unasked = λ notifies. subst (All IsNotice) (sym a) (All-append IsNotice ms ls (t.unasked notifies) all);
+  answered = λ running id method params asks. reply_more (IsAnswer old id method params) ms ns ls a all (t.answered running id method params asks);
+  started = λ early id starts. reply_more (Started id other) ms ns ls a all (reply_so (Started id new) (Started id other) ms (started_on id new other p k) (t.started early id starts));
   client = client_on old new other p k t.client;
   exited = λ exits. p ∙ t.exited exits;
   goes_on = λ stays. ap is_over p ∙ t.goes_on stays;
@@ -148,6 +161,7 @@ takes_lost old new other message ms r same (p, k) t is =
       all = λ u. tt;
       taken = λ running note tells. tt;
       replied = λ id asks. tt;
+      unasked = λ notifies. tt;
       answered = λ running id method params asks. tt;
       started = λ early id starts. tt;
       client = client_on old new other p k t.client;
@@ -155,24 +169,87 @@ takes_lost old new other message ms r same (p, k) t is =
       goes_on = λ stays. ap is_over p ∙ t.goes_on stays;
     })
 
--- a reply to `initialize` is sent
-pub started_pushed : (id : Json) (ms ns : List (String Global)) (m : String Global) (s : State) → ns ≡ ms ++ m ∷ [] → IsFailure id m ⊎ ((s.phase ≡ Running) × IsGreeting id s.client.encoding m)
-    → Fails id ns ⊎ ((s.phase ≡ Running) × Greets id s.client.encoding ns)
-started_pushed id ms ns m s e (inl fails) = inl (fails_pushed id ms ns m e fails)
-started_pushed id ms ns m s e (inr (running, greets)) = inr (running, greets_pushed id s.client.encoding ms ns m e greets)
+-- ---- what replies are not
 
--- no message is among none
-no_message : (m : String Global) → Contains [] m → ⊥
-no_message m has = let l : has.0 < 0 = has.1 in absurd (omega (arith, l))
-
-pub none_replies : (id : Json) → Replies id [] → ⊥
-unfolding Replies
-none_replies id r = no_message r.0 r.1
+-- a list without messages has none
+pub none_replies : (Is : String Global → Type 0) → OneReply Is [] → ⊥
+unfolding OneReply
+none_replies Is (before, m, rear, split, is, notices) = let h : 0 ≡ length before + suc (length rear) = ap length split ∙ length-append before (m ∷ rear) in absurd (omega (arith, h))
 
 pub none_logs : Logs [] → ⊥
 unfolding Logs
-none_logs r = no_message r.0 r.1
+none_logs (m, has, is) = let l : has.0 < 0 = has.1 in absurd (omega (arith, l))
 
-pub none_lost : (m : String Global) → AreIn (m ∷ []) [] → ⊥
-unfolding AreIn
-none_lost m a = no_message m (a m (Contains-push [] m))
+-- two replies are not one
+pub not_twice : (Is : String Global → Type 0) (m n : String Global) → (IsNotice m → ⊥) → (IsNotice n → ⊥) → OneReply Is (m ∷ n ∷ []) → ⊥
+unfolding OneReply
+not_twice Is m n first second ([], k, rear, split, is, notices) = let rest : n ∷ [] ≡ rear = ap (drop 1) split in second (subst (All IsNotice) (sym rest) notices 0 n (omega arith))
+not_twice Is m n first second (x ∷ xs, k, rear, split, is, notices) = let same : m ≡ x = ap (λ l. get_or l 0 m) split in first (subst IsNotice (sym same) (notices 0 m (omega arith)))
+
+-- one message is the reply
+pub alone : (Is : String Global → Type 0) (m : String Global) → OneReply Is (m ∷ []) → Is m
+unfolding OneReply
+alone Is m ([], k, rear, split, is, notices) = let same : m ≡ k = ap (λ l. get_or l 0 m) split in subst Is (sym same) is
+alone Is m (x ∷ xs, k, rear, split, is, notices) = let h : 1 ≡ suc (length xs + suc (length rear)) = ap length split ∙ ap suc (length-append xs (k ∷ rear)) in absurd (omega (arith, h))
+
+-- ---- messages that no document is open after
+
+pub some_sent : {E : Type 0} (r : Result (Vec (String Global) Global) E) (P : List (String Global) → Type 0) → IfOk r (λ out. P out.items) → IfSome (sent_of r) P
+some_sent (Ok out) P p = p
+some_sent (Err e) P p = tt
+
+pub sent_of_all : {E : Type 0} (r : Result (Vec (String Global) Global) E) (P : Type 0) → P → IfSome (sent_of r) (λ _. P)
+sent_of_all (Ok out) P p = p
+sent_of_all (Err e) P p = tt
+
+abbrev Refused : List ℕ → State → List (String Global) → Type 0
+Refused message new ms = (document message ≡ None) × IsEmpty new.open × OneReply (IsReplyTo null) ms × Logs ms
+
+pub refused_sent : {E : Type 0} (r : Result (Vec (String Global) Global) E) (message : List ℕ) (new : State) → document message ≡ None → IsEmpty new.open → IfOk r (λ out. OneReply (IsReplyTo null) out.items) → IfOk r (λ out. Logs out.items)
+    → IfSome (sent_of r) (Refused message new)
+refused_sent (Ok out) message new none empty reply logs = (none, empty, reply, logs)
+refused_sent (Err e) message new none empty reply logs = tt
+
+-- a text tells nothing that is not JSON
+untold : (message : List ℕ) (P : Json → Type 0) (Q : Type 0) → document message ≡ None → IsSomeAnd (document message) P → Q
+untold message P Q none so = absurd (subst (λ o. IsSomeAnd o P) none so)
+
+pub takes_closed : (old new : State) (message : List ℕ) (sent : Option (List (String Global))) → SessionStays old new → ((texts : Texts) → Agrees new texts) → IfSome sent (Refused message new) → Takes old message sent new
+takes_closed old new message None s agrees refused = record {
+  refused = λ none. tt;
+  told = λ running note texts tells so. agrees (after old.client.encoding note texts);
+  untold = λ none texts so. agrees texts;
+  session = λ note tells. s;
+  stays = λ uri changes tells. tt;
+  others = λ some. tt;
+  all = λ quiet. tt;
+  taken = λ running note tells. tt;
+  replied = λ id asks. tt;
+  unasked = λ notifies. tt;
+  answered = λ running id method params asks. tt;
+  started = λ early id starts. tt;
+  client = inl s.1;
+  exited = λ exits. tt;
+  goes_on = λ none. ap is_over s.0;
+}
+takes_closed old new message (Some ms) s agrees (none, empty, reply, logs) = record {
+  refused = λ _. (empty, s, reply, logs);
+  told = λ running note texts tells so. agrees (after old.client.encoding note texts);
+  untold = λ _ texts so. agrees texts;
+  session = λ note tells. s;
+  stays = λ uri changes tells. untold message (λ j. TellsIn j (Changed uri changes)) _ none tells;
+  others = λ some. (let h = subst IsSome none some in absurd (cc (h)));
+  all = λ quiet. untold message (λ j. IfSome (method_of j) IsIgnored) _ none quiet;
+  taken = λ running note tells. untold message (λ j. TellsIn j note) _ none tells;
+  replied = λ id asks. untold message (λ j. AsksIn j id) _ none asks;
+  unasked = λ notifies. untold message (λ j. IsSome (method_of j)) _ none notifies;
+  answered = λ running id method params asks. untold message (λ j. AsksForIn j id method params) _ none asks;
+  started = λ early id starts. untold message (λ j. StartsIn j id) _ none starts;
+  client = inl s.1;
+  exited = λ exits. untold message (λ j. method_of j ≡ Some (codes "exit")) _ none exits;
+  goes_on = λ _. ap is_over s.0;
+}
+
+pub marks_closed : (old new : State) (message : List ℕ) (sent : Option (List (String Global))) → IfSome sent (Refused message new) → Marks old message sent new
+marks_closed old new message None refused running note tells = tt
+marks_closed old new message (Some ms) (none, empty, reply, logs) running note tells = untold message (λ j. TellsIn j note) _ none tells

@@ -5,25 +5,18 @@ use Rattle.std.proofs.KnownBytes.{Appends-nil, Appends-trans, Consumes-nil, Cons
 use Rattle.std.proofs.lemmas.Grind.{flat_map-append}
 use Rattle.std.proofs.lemmas.List.{append-nil, append_assoc, map-append, take_more}
 use Rattle.std.specs.Io.KnownBytes.{Appends, Consumes, Keeps}
-use Rattle.lsp.specs.Turns.{ArePublished, AreSteps, IsNew, IsOver, Published, Publishes, Sent, Serves, ServesFrames, Step, TakesFrames, Took, frames_of, no_memory, taken_in, was_down, written_for}
+use Rattle.lsp.specs.Turns.{ArePublished, AreSteps, IsEnd, IsNew, IsStep, Published, Serves, ServesFrames, Step, TakesFrames, Took, taken_in, written_for}
+use Rattle.lsp.specs.declared.session.End.{End}
+use Rattle.lsp.specs.declared.session.End.TheVariants.{EndInFrame, EndOfInput, Exit, NoFrame}
 use Rattle.lsp_documents.specs.States.{is_over}
 use Rattle.lsp_documents.specs.declared.state.Phase.{Phase}
-use Rattle.lsp_documents.specs.declared.state.Phase.TheVariants.{Running}
+use Rattle.lsp_documents.specs.declared.state.Phase.TheVariants.{Down, New, Over, Running}
 use Rattle.lsp_documents.specs.declared.state.State.{State}
-use Rattle.lsp_frames.specs.Frames.{AreFrames, frame_in, head_size, is_bad, left_after}
+use Rattle.lsp_frames.specs.Frames.{AreFrames, frame_in, frame_of, head_size, is_bad, left_after}
 use Rattle.lsp_frames.specs.Heads.{place_of}
 use Rattle.lsp_frames.proofs.Growing.{empty_none, frames_more, frames_pushed}
 
--- what is written for one more of some things
-pub one_more : {A : Type 0} (f : A → List ℕ) (a b c : Option (List ℕ)) (xs : List A) (i : ℕ) (d : A) (bs : List ℕ) → i < length xs → bs ≡ f (get_or xs i d)
-    → Appends a b (flat_map f (take i xs)) → Appends b c bs → Appends a c (flat_map f (take (i + 1) xs))
-one_more f a b c xs i d bs inside is old new =
-    let x = get_or xs i d in
-    let whole : flat_map f (take (i + 1) xs) ≡ flat_map f (take i xs) ++ bs =
-    ap (flat_map f) (take_more xs i d inside) ∙ flat_map-append f (take i xs) (x ∷ []) ∙ ap (λ t. flat_map f (take i xs) ++ t) (append-nil (f x) ∙ sym is) in
-    subst (Appends a c) (sym whole) (Appends-trans a b c _ _ old new)
-
--- the same, where the things are read as others first
+-- what is written for one more of some things, which are read as others first
 pub one_read : {A B : Type 0} (f : B → List ℕ) (r : A → B) (a b c : Option (List ℕ)) (xs : List A) (i : ℕ) (d : A) (bs : List ℕ) → i < length xs → bs ≡ f (r (get_or xs i d))
     → Appends a b (flat_map f (map r (take i xs))) → Appends b c bs → Appends a c (flat_map f (map r (take (i + 1) xs)))
 one_read f r a b c xs i d bs inside is old new =
@@ -39,6 +32,9 @@ kept_after None b c bs p q = tt
 kept_after (Some x) None c bs p q = absurd p
 kept_after (Some x) (Some y) None bs p q = absurd q
 kept_after (Some x) (Some y) (Some z) bs p q = q ∙ p
+
+pub two_written : (a b c : Option (List ℕ)) (x y : List ℕ) → Appends a b (frame_of x) → Appends b c (frame_of y) → Appends a c (flat_map frame_of (x ∷ y ∷ []))
+two_written a b c x y p q = Appends-trans a b c (frame_of x) (frame_of y ++ []) p (subst (Appends b c) (sym (append-nil (frame_of y))) q)
 
 -- steps after others
 pub steps_on : (old mid new : State) (ss ts : List Step) → AreSteps old ss mid → AreSteps mid ts new → AreSteps old (ss ++ ts) new
@@ -60,7 +56,7 @@ pub written_alone : (a b : Option (List ℕ)) (s : Step) → Appends a b (writte
 written_alone a b s p = subst (Appends a b) (sym (append-nil (written_for s))) p
 
 -- a frame more is taken
-pub took_more : (bytes : List ℕ) (ss : List Step) (mid message rest : List ℕ) (sent : Sent) → AreFrames bytes (taken_in ss) mid → frame_in mid ≡ Some (message, rest) → AreFrames bytes (taken_in (ss ++ Took message sent ∷ [])) rest
+pub took_more : (bytes : List ℕ) (ss : List Step) (mid message rest : List ℕ) (sent : List (List ℕ)) → AreFrames bytes (taken_in ss) mid → frame_in mid ≡ Some (message, rest) → AreFrames bytes (taken_in (ss ++ Took message sent ∷ [])) rest
 took_more bytes ss mid message rest sent h e = subst (λ ms. AreFrames bytes ms rest) (sym (taken_on ss (Took message sent ∷ []))) (frames_more bytes (taken_in ss) mid message rest h e)
 
 -- no frame is left
@@ -74,8 +70,8 @@ took_all old new frames mid rest a b ss taken led written none is =
     record { steps = ss; written = written; taken = subst (AreFrames frames (taken_in ss)) (sym same) taken; led = led; ended = inr (ap frame_in same ∙ none) }
 
 -- the frames are taken, and then faults published
-pub served : (old mid new : State) (frames rest : List ℕ) (a b c d e : Option (List ℕ)) (sent : Sent) → TakesFrames old frames rest a b mid → Keeps b c → Publishes mid sent new
-    → Appends c d (frames_of sent (no_memory ∷ [])) → Keeps d e → new.phase ≡ mid.phase → ServesFrames old frames rest a e new
+pub served : (old mid new : State) (frames rest : List ℕ) (a b c d e : Option (List ℕ)) (sent : List (List ℕ)) → TakesFrames old frames rest a b mid → Keeps b c → IsStep (Published sent) mid new
+    → Appends c d (flat_map frame_of sent) → Keeps d e → new.phase ≡ mid.phase → ServesFrames old frames rest a e new
 served old mid new frames rest a b c d e sent t k p w l same =
     let last = Published sent in
     record {
@@ -130,33 +126,13 @@ pub all_taken : (p : Phase) (b : Bool) (rest : List ℕ) → IsTrue (is_over p) 
 all_taken p b rest (inl over) is none = absurd (not_both (is_over p) over (sym is ∙ none))
 all_taken p b rest (inr left) is none = left
 
--- nothing more is read
-pub read_none : (had left end : Option (List ℕ)) (bytes chunk : List ℕ) (n : ℕ) → n ≡ 0 → Consumes had left bytes → Consumes left end (take n chunk) → Consumes had end bytes
+read_none : (had left end : Option (List ℕ)) (bytes chunk : List ℕ) (n : ℕ) → n ≡ 0 → Consumes had left bytes → Consumes left end (take n chunk) → Consumes had end bytes
 read_none had left end bytes chunk n none read more =
     let last : Consumes left end (take 0 chunk) = subst (λ k. Consumes left end (take k chunk)) none more in
     subst (Consumes had end) (append-nil bytes) (Consumes-trans had left end bytes [] read last)
 
-pub at_end : (had left end held holds : Option (List ℕ)) (first s : State) (frames chunk : List ℕ) (n : ℕ) (status : Bool) → Going had left held holds first s frames → IsNew first → n ≡ 0
-    → Consumes left end (take n chunk) → IsOver s frames end → status ≡ was_down s.phase → Serves had end held holds status
-at_end had left end held holds first s frames chunk n status g new none more over told = record {
-  bytes = g.bytes;
-  rest = frames;
-  steps = g.steps;
-  first = first;
-  last = s;
-  starts = new;
-  read = read_none had left end g.bytes chunk n none g.read more;
-  taken = g.taken;
-  led = g.led;
-  written = g.written;
-  published = g.published;
-  ended = over;
-  told = told;
-}
-
-pub at_exit : (had left held holds : Option (List ℕ)) (first s : State) (frames : List ℕ) (status : Bool) → Going had left held holds first s frames → IsNew first
-    → IsOver s frames left → status ≡ was_down s.phase → Serves had left held holds status
-at_exit had left held holds first s frames status g new over told = record {
+pub ended : (had left held holds : Option (List ℕ)) (first s : State) (frames : List ℕ) (end : End) → Going had left held holds first s frames → IsNew first → IsEnd end s frames left → Serves had left held holds end
+ended had left held holds first s frames end g new so = record {
   bytes = g.bytes;
   rest = frames;
   steps = g.steps;
@@ -168,25 +144,47 @@ at_exit had left held holds first s frames status g new over told = record {
   led = g.led;
   written = g.written;
   published = g.published;
-  ended = over;
-  told = told;
+  ended = so;
+}
+
+pub not_over : (p : Phase) → ((was_down : Bool) → p ≡ Over was_down → ⊥) → is_over p ≡ false
+not_over New other = refl
+not_over Running other = refl
+not_over Down other = refl
+not_over (Over b) other = absurd (other b refl)
+
+-- room is made before bytes are pushed
+pub pushed_after : (old room new part : List ℕ) → room ≡ old → new ≡ room ++ part → new ≡ old ++ part
+pushed_after old room new part same is = is ∙ ap (λ f. f ++ part) same
+
+pub end_on : (end : End) (s : State) (room old : List ℕ) (left : Option (List ℕ)) → room ≡ old → IsEnd end s room left → IsEnd end s old left
+end_on end s room old left same so = subst (λ f. IsEnd end s f left) same so
+
+-- nothing more is read
+pub going_read : (had left end held holds : Option (List ℕ)) (first s : State) (frames chunk : List ℕ) (n : ℕ) → n ≡ 0 → Consumes left end (take n chunk) → Going had left held holds first s frames → Going had end held holds first s frames
+going_read had left end held holds first s frames chunk n none more g = record {
+  bytes = g.bytes;
+  steps = g.steps;
+  read = read_none had left end g.bytes chunk n none g.read more;
+  taken = g.taken;
+  led = g.led;
+  written = g.written;
+  published = g.published;
 }
 
 -- ---- what sessions are not
 
-pub not_published : (message : List ℕ) (sent : Sent) → ArePublished (Took message sent ∷ []) → ⊥
+pub not_published : (message : List ℕ) (sent : List (List ℕ)) → ArePublished (Took message sent ∷ []) → ⊥
 not_published message sent (inl none) = let h : 1 ≡ 0 = ap length none in absurd (omega (arith, h))
 not_published message sent (inr ([], other, is)) = absurd cc
 not_published message sent (inr (s ∷ front, other, is)) = let h : 1 ≡ suc (length (front ++ Published other ∷ [])) = ap length is in absurd (omega (arith, h, length-append front (Published other ∷ [])))
-
-runs_on : (p : Phase) → p ≡ Running → IsTrue (is_over p) → ⊥
-runs_on p running over = not_both (is_over p) over (ap is_over running)
 
 empty_is_good : is_bad [] ≡ false
 unfolding is_bad head_size place_of
 empty_is_good = refl
 
-pub not_over : (s : State) → s.phase ≡ Running → IsOver s [] (Some (97 ∷ [])) → ⊥
-not_over s running (inl over) = runs_on s.phase running over
-not_over s running (inr (inl bad)) = not_both (is_bad []) bad empty_is_good
-not_over s running (inr (inr end)) = let h : 1 ≡ 0 = ap length end.0 in absurd (omega (arith, h))
+pub not_ended : (s : State) (end : End) → s.phase ≡ Running → IsEnd end s [] (Some (97 ∷ [])) → ⊥
+not_ended s (Exit was_down) running over = absurd (cc (running, over))
+not_ended s NoFrame running (on, bad) = not_both (is_bad []) bad empty_is_good
+not_ended s EndOfInput running (on, end, rest) = let h : 1 ≡ 0 = ap length end in absurd (omega (arith, h))
+not_ended s EndInFrame running (on, end, rest, none) = let h : 1 ≡ 0 = ap length end in absurd (omega (arith, h))

@@ -47,9 +47,6 @@ pub record IsContent (s : State) (method : List ℕ) (params : Json) (content : 
   pub formatting : method ≡ codes "textDocument/formatting" → IsAbout s params (IsFormatted s.client.encoding params) content
   pub range_formatting : method ≡ codes "textDocument/rangeFormatting" → IsAbout s params (IsRangeFormatted s.client.encoding params) content
 
--- a message is the reply to a request; one of the messages is
+-- a message is the reply to a request
 abbrev pub IsAnswer : State → Json → List ℕ → Json → String Global → Type 0
 IsAnswer s id method params m = (content : Content) × IsContent s method params content × IsReplyFor id content m
-
-unfoldable pub Answers : State → Json → List ℕ → Json → List (String Global) → Type 0
-Answers s id method params ms = (m : String Global) × Contains ms m × IsAnswer s id method params m

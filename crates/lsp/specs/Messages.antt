@@ -64,6 +64,10 @@ AsksForIn j id method params = (get (codes "id") j ≡ Some id) × (option_and_t
 abbrev pub AsksFor : List ℕ → Json → List ℕ → Json → Type 0
 AsksFor text id method params = IsSomeAnd (document text) (λ j. AsksForIn j id method params)
 
+-- a text is a notification
+abbrev pub Notifies : List ℕ → Type 0
+Notifies text = IsSomeAnd (document text) (λ j. IsSome (method_of j))
+
 -- a message is the request `initialize` with the identifier; a text is such a message
 abbrev pub StartsIn : Json → Json → Type 0
 StartsIn j id = (get (codes "id") j ≡ Some id) × (option_and_then as_str (get (codes "method") j) ≡ Some (codes "initialize"))

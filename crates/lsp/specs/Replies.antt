@@ -1,5 +1,5 @@
 -- Messages of the server.
-use Rattle.std.specs.Prelude.{◌≡◌, ◌++◌, ◌∷◌, [], ℕ, ℤ, List, Contains, Result, Ok, Err, String, codes, neg_ℤ, pos, string_bytes}
+use Rattle.std.specs.Prelude.{◌≡◌, ◌++◌, ◌∷◌, [], ℕ, ℤ, List, Contains, Result, Ok, Err, String, All, codes, neg_ℤ, pos, string_bytes}
 use Rattle.std.specs.Fmt.{signed_decimal}
 use Rattle.std.specs.Global.{Global}
 use Rattle.json.specs.Json as json
@@ -90,24 +90,26 @@ greeting_json e more rest = object (member (codes "capabilities") (object (membe
 abbrev pub IsGreeting : Json → Encoding → String Global → Type 0
 IsGreeting id e m = (more : Members) × (rest : Members) × IsReplyWith (codes "result") (greeting_json e more rest) id m
 
--- a message is one for the log of the client
+-- a message is a notification; it is one for the log of the client, with a text, or with one that names a URI
+abbrev pub IsNotice : String Global → Type 0
+IsNotice m = (method : List ℕ) × (more : List Token) × (string_bytes m ≡ print (notice_head method ++ more))
+
+abbrev pub IsLogWith : List ℕ → String Global → Type 0
+IsLogWith text m = (n : List ℕ) × (string_bytes m ≡ print (notice_head (codes "window/logMessage") ++ begin_object ∷ key (codes "type") ∷ number n ∷ key (codes "message") ∷ string text ∷ end_object ∷ end_object ∷ []))
+
 abbrev pub IsLog : String Global → Type 0
-IsLog m = (n text : List ℕ) × (string_bytes m ≡ print (notice_head (codes "window/logMessage") ++ begin_object ∷ key (codes "type") ∷ number n ∷ key (codes "message") ∷ string text ∷ end_object ∷ end_object ∷ []))
+IsLog m = (text : List ℕ) × IsLogWith text m
 
--- one of the messages is a reply to the request; one is for the log
-unfoldable pub Replies : Json → List (String Global) → Type 0
-Replies id ms = (m : String Global) × Contains ms m × IsReplyTo id m
+abbrev pub IsLogOf : List ℕ → String Global → Type 0
+IsLogOf uri m = (before after : List ℕ) × IsLogWith (before ++ uri ++ after) m
 
+-- one of the messages is for the log; one is for the log, and names a URI
 unfoldable pub Logs : List (String Global) → Type 0
 Logs ms = (m : String Global) × Contains ms m × IsLog m
 
--- one of the messages is a reply to `initialize` with the encoding; one is a reply with an error
-unfoldable pub Greets : Json → Encoding → List (String Global) → Type 0
-Greets id e ms = (m : String Global) × Contains ms m × IsGreeting id e m
+unfoldable pub LogsOf : List (String Global) → List ℕ → Type 0
+LogsOf ms uri = (m : String Global) × Contains ms m × IsLogOf uri m
 
-unfoldable pub Fails : Json → List (String Global) → Type 0
-Fails id ms = (m : String Global) × Contains ms m × IsFailure id m
-
--- each of the messages is one of the others
-unfoldable pub AreIn : List (String Global) → List (String Global) → Type 0
-AreIn ms ns = (m : String Global) → Contains ms m → Contains ns m
+-- one of the messages is a reply, of which something is so, and all others are notifications
+unfoldable pub OneReply : (String Global → Type 0) → List (String Global) → Type 0
+OneReply Is ms = (before : List (String Global)) × (m : String Global) × (after : List (String Global)) × (ms ≡ before ++ m ∷ after) × Is m × All IsNotice (before ++ after)

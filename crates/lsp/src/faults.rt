@@ -6,7 +6,7 @@ ghost use Rattle.lsp.specs.Faults.{AreDiagnostics, AreFaultsOf, IsDiagnostic, Is
 ghost use Rattle.lsp.specs.Messages.{severity_number};
 ghost use Rattle.lsp.specs.Internal.Nesting.{Grows, WritesItems, WritesMembers};
 ghost use Rattle.lsp.specs.Replies.{IsWritten};
-ghost use Rattle.std.specs.Prelude.{◌≡◌, ◌++◌, ◌∷◌, [], ℕ, List, Some, IfOk, OnOk, codes, string_bytes};
+ghost use Rattle.std.specs.Prelude.{◌≡◌, ◌++◌, ◌∷◌, [], ℕ, List, None, Some, IfOk, OnOk, codes, string_bytes};
 
 use crate::write::{Out, begin_notice, finish, put_number, put_range, put_text};
 use kdl::{KdlDocument, ParseFailure};
@@ -62,14 +62,10 @@ pub(crate) fn faults_notice(
 }
 
 /// Returns the notification that a document has no faults.
-pub(crate) fn no_faults_notice(
-    alloc: Global,
-    uri: &str,
-    version: Option<i64>,
-) -> Result<String, AllocError>
-    ensures { IfOk result (λ m. string_bytes m ≡ print (notice_tokens uri.now version [])) }
+pub(crate) fn no_faults_notice(alloc: Global, uri: &str) -> Result<String, AllocError>
+    ensures { IfOk result (λ m. string_bytes m ≡ print (notice_tokens uri.now None [])) }
 {
-    let out = begin_faults(alloc, uri, version)?;
+    let out = begin_faults(alloc, uri, None)?;
     finish_faults(alloc, out)
 }
 

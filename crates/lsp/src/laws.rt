@@ -6,8 +6,9 @@ ghost use Rattle.lsp.specs.Contents.{text_in};
 ghost use Rattle.lsp.specs.Faults.{AreDiagnostics, IsFaultsNotice, PublishEach, known_at};
 ghost use Rattle.lsp.specs.Formatting.{IsEditsTo, IsFormatting, IsIndent, IsLaidOut};
 ghost use Rattle.lsp.specs.Messages.{Asks, AsksFor, IsQuiet, Names, TextTells};
-ghost use Rattle.lsp.specs.Replies.{AreIn, IsGreeting, IsLog, IsReplyTo, IsReplyWith, Logs, Replies};
-ghost use Rattle.lsp.specs.Turns.{ArePublished, IsNew, IsOver, IsText, Sent, Takes, Took};
+ghost use Rattle.lsp.specs.Replies.{IsGreeting, IsNotice, IsReplyTo, IsReplyWith, Logs, OneReply};
+ghost use Rattle.lsp.specs.Turns.{ArePublished, IsEnd, IsNew, IsText, Takes, Took};
+ghost use Rattle.lsp.specs.declared.session.End.{End};
 ghost use Rattle.lsp_documents.specs.Notes.{Note};
 ghost use Rattle.lsp_documents.specs.declared.state.Phase.TheVariants as Phase;
 ghost use Rattle.lsp_documents.specs.declared.state.State.{State};
@@ -35,15 +36,15 @@ pub fn saving_is_quiet()
 {}
 
 /// What messages of the server are not: the empty text is no reply, nor is a reply without its last bracket, a reply to one
-/// request is none to another, and a message for the log is none. Among no messages is none of these.
+/// request is none to another, and a notification is none. No messages are not one reply, nor are two replies.
 pub fn replies_are_not_so()
     ensures empty { (id : Json) (m : String Global) → string_bytes m ≡ [] → IsReplyTo id m → ⊥ }
     ensures cut { (id : Json) (m n : String Global) → string_bytes m ≡ string_bytes n ++ 125 ∷ [] → IsReplyTo id m → IsReplyTo id n → ⊥ }
     ensures other { (m : String Global) → IsReplyTo (string (codes "a")) m → IsReplyTo (string (codes "b")) m → ⊥ }
-    ensures log { (id : Json) (m : String Global) → IsLog m → IsReplyTo id m → ⊥ }
-    ensures unsent { (id : Json) → Replies id [] → ⊥ }
+    ensures notice { (id : Json) (m : String Global) → IsNotice m → IsReplyTo id m → ⊥ }
+    ensures unsent { (id : Json) → OneReply (IsReplyTo id) [] → ⊥ }
+    ensures twice { (id a b : Json) (m n : String Global) → IsReplyTo a m → IsReplyTo b n → OneReply (IsReplyTo id) (m ∷ n ∷ []) → ⊥ }
     ensures unlogged { Logs [] → ⊥ }
-    ensures lost { (m : String Global) → AreIn (m ∷ []) [] → ⊥ }
 {}
 
 /// What turns are not: silence after a request, or after a text that is not JSON, a reply to `initialize` with another
@@ -53,8 +54,8 @@ pub fn turns_are_not_so()
     ensures deaf { (old new : State) → Takes old [] (Some []) new → ⊥ }
     ensures encoding { (m : String Global) → IsGreeting (string (codes "a")) Utf8 m → IsGreeting (string (codes "a")) Utf32 m → ⊥ }
     ensures text { IsText (97 ∷ []) (98 ∷ []) → ⊥ }
-    ensures unpublished { (message : List ℕ) (sent : Sent) → ArePublished (Took message sent ∷ []) → ⊥ }
-    ensures on { (s : State) → s.phase ≡ Phase.Running → IsOver s [] (Some (97 ∷ [])) → ⊥ }
+    ensures unpublished { (message : List ℕ) (sent : List (List ℕ)) → ArePublished (Took message sent ∷ []) → ⊥ }
+    ensures on { (s : State) (end : End) → s.phase ≡ Phase.Running → IsEnd end s [] (Some (97 ∷ [])) → ⊥ }
     ensures fresh { (s : State) → s.phase ≡ Phase.Running → IsNew s → ⊥ }
 {}
 

@@ -36,4 +36,4 @@ mod write;
 
 pub use lsp_documents::{Client, Document, Phase, State};
 pub use message::step;
-pub use session::serve;
+pub use session::{End, serve};

@@ -1,13 +1,15 @@
 //! Requests.
 
-ghost use Rattle.json.specs.Json.{Members as JsonMembers};
+ghost use Rattle.json.specs.Find.{as_str};
+ghost use Rattle.json.specs.Reads.{token_of};
+ghost use Rattle.json.specs.Json.{Json, Members as JsonMembers};
 ghost use Rattle.json.specs.Value.{value_view};
 ghost use Rattle.lsp.specs.Contents.{IsAnswer, IsContent, IsFormatted, IsRangeFormatted, text_in};
-ghost use Rattle.lsp.specs.Messages.{encoding_name, is_known};
-ghost use Rattle.lsp.specs.Internal.Nesting.{Grows, WritesMembers, greeting_head};
+ghost use Rattle.lsp.specs.Messages.{Asks, encoding_name, is_known};
+ghost use Rattle.lsp.specs.Internal.Nesting.{Grows, WritesMembers, begins_object, greeting_head};
 ghost use Rattle.lsp.specs.Replies.{IsGreeting, IsJson, IsReplyTo, IsSomeJson, IsWritten, greeting_json};
 ghost use Rattle.lsp_documents.specs.States.{is_over};
-ghost use Rattle.std.specs.Prelude.{◌≡◌, ◌⊎◌, Err, IfErr, IfOk, Ok, OnErr, OnOk, codes, string_bytes};
+ghost use Rattle.std.specs.Prelude.{◌≡◌, ◌⊎◌, Err, IfErr, IfOk, MatchOption, Ok, OnErr, OnOk, codes, is_some, option_and_then, option_map, string_bytes};
 
 use crate::complete::completion;
 use crate::fix::actions;
@@ -18,7 +20,7 @@ use crate::selection::selections;
 use crate::symbols::symbols;
 use crate::tokens::{LEGEND, tokens};
 use crate::write::{Out, Wrong, begin, end, null_json, put_number, put_text, put_true, reply_to};
-use json::Value;
+use json::{Error, MAX_DEPTH, Reader, Scratch, Token, Value};
 use lsp_documents::params::{encoding, uri};
 use lsp_documents::{Client, Phase, State};
 use lsp_text::Encoding;
@@ -58,6 +60,55 @@ pub(crate) fn reply(
             Ok(reply)
         }
         _ => reply_to(alloc, id, content(alloc, state, method, params)),
+    }
+}
+
+/// Returns the identifier of a text that is a request. Only an identifier or a method that is a list or an object takes
+/// memory, and a text for which `scratch` has no room.
+pub(crate) fn request_id<'a>(
+    alloc: Global,
+    text: &'a str,
+    scratch: &'a mut Scratch,
+) -> Result<Option<Value<'a>>, Error>
+    ensures found { IfOk result (λ found. MatchOption found ((id : Json) → Asks text.now id → ⊥) (λ id. Asks text.now (value_view id))) }
+    ensures invalid { result ≡ Err Error.Invalid → (id : Json) → Asks text.now id → ⊥ }
+{
+    let mut reader = Reader::new(text, scratch)?;
+    if !begins_object(reader.next()) {
+        return Ok(None);
+    }
+    let mut id = None;
+    let mut method = None;
+    while let Some(key) = reader.next_key()? {
+        match key {
+            "id" => id = Some(Value::read(alloc, &mut reader, MAX_DEPTH - 1)?),
+            "method" => method = Some(Value::read(alloc, &mut reader, MAX_DEPTH - 1)?),
+            _ => reader.skip_value(MAX_DEPTH - 1)?,
+        }
+    }
+    if reader.next().is_some() {
+        return Ok(None);
+    }
+    if !is_text(&method) {
+        return Ok(None);
+    }
+    Ok(id)
+}
+
+/// Returns whether a token begins an object.
+fn begins_object(token: Option<Token<'_>>) -> bool
+    ensures { result ≡ begins_object (option_map token_of token.entry) }
+{
+    matches!(token, Some(Token::BeginObject))
+}
+
+/// Returns whether a value is there, and is a string.
+fn is_text(value: &Option<Value<'_>>) -> bool
+    ensures { result ≡ is_some (option_and_then as_str (option_map value_view value.now)) }
+{
+    match value {
+        Some(value) => value.as_str().is_some(),
+        None => false,
     }
 }
 

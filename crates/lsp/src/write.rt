@@ -8,9 +8,9 @@ ghost use Rattle.json.specs.Value.{value_view};
 ghost use Rattle.lsp.specs.Faults.{position_tokens, range_tokens};
 ghost use Rattle.lsp.specs.Formatting.{edit_tokens};
 ghost use Rattle.lsp.specs.Internal.Nesting.{WritesMembers, WritesValue};
-ghost use Rattle.lsp.specs.Replies.{IsFailure, IsId, IsJson, IsLiteral, IsLog, IsNumberId, IsReplyFor, IsReplyTo, IsReplyWith, IsSomeJson, IsWritten, error_code, error_json, message_head, notice_head};
+ghost use Rattle.lsp.specs.Replies.{IsFailure, IsId, IsJson, IsLiteral, IsLogWith, IsNumberId, IsReplyFor, IsReplyTo, IsReplyWith, IsSomeJson, IsWritten, error_code, error_json, message_head, notice_head};
 ghost use Rattle.lsp.specs.declared.write.Wrong.TheVariants.{Memory};
-ghost use Rattle.std.specs.Prelude.{◌≡◌, ◌++◌, ◌∷◌, [], ℕ, List, IfOk, OnErr, OnOk, codes, decimal, string_bytes, true};
+ghost use Rattle.std.specs.Prelude.{◌≡◌, ◌++◌, ◌∷◌, [], ℕ, List, Err, IfOk, OnErr, OnOk, codes, decimal, string_bytes, true};
 
 use json::{Value, Writer, is_number};
 use lsp_text::{Position, Range};
@@ -67,17 +67,16 @@ impl Wrong {
         }
     }
 
-    /// Returns the error of a reply as JSON.
-    fn to_json(self, alloc: Global) -> Result<String, AllocError>
-        ensures { IfOk result (λ out. (text : List ℕ) × IsJson (error_json (error_code self) text) (string_bytes out)) }
+    /// Writes the error of a reply.
+    fn put(self, out: &mut Out) -> Result<(), AllocError>
+        ensures before { OnOk result (out.new.before ≡ out.old.before) }
+        ensures written { OnOk result ((text : List ℕ) × (out.new.tokens ≡ out.old.tokens ++ json_tokens (error_json (error_code self) text))) }
     {
-        let mut out = begin(alloc);
         out.begin_object()?;
         out.key("code")?;
         out.i64(self.code())?;
-        put_text(&mut out, "message", self.text())?;
-        out.end_object()?;
-        Ok(end(alloc, out))
+        put_text(out, "message", self.text())?;
+        out.end_object()
     }
 }
 
@@ -118,11 +117,11 @@ pub(crate) fn null_json(alloc: Global) -> Result<String, AllocError>
     Ok(end(alloc, out))
 }
 
-/// Begins a message.
-fn begin_message(alloc: Global) -> Result<Out, AllocError>
-    ensures { IfOk result (λ out. IsWritten out message_head) }
+/// Begins a message, in an empty buffer.
+fn begin_message(buffer: Vec<u8>) -> Result<Out, AllocError>
+    ensures { buffer.items ≡ [] → IfOk result (λ out. IsWritten out message_head) }
 {
-    let mut out = begin(alloc);
+    let mut out = Writer::new(buffer);
     out.begin_object()?;
     put_text(&mut out, "jsonrpc", "2.0")?;
     Ok(out)
@@ -141,7 +140,7 @@ pub(crate) fn finish(alloc: Global, out: Out) -> Result<String, AllocError>
 pub(crate) fn begin_notice(alloc: Global, method: &str) -> Result<Out, AllocError>
     ensures { IfOk result (λ out. IsWritten out (notice_head method.now)) }
 {
-    let mut out = begin_message(alloc)?;
+    let mut out = begin_message(Vec::new(alloc))?;
     put_text(&mut out, "method", method)?;
     out.key("params")?;
     Ok(out)
@@ -159,23 +158,35 @@ pub(crate) fn reply_to(
     ensures error { OnErr content (IfOk result (IsFailure (value_view id.now))) }
 {
     match content {
-        Ok(content) => reply_with(alloc, id, "result", &content),
-        Err(wrong) => reply_with(alloc, id, "error", &wrong.to_json(alloc)?),
+        Ok(content) => success(alloc, id, &content),
+        Err(wrong) => failure(alloc, Vec::new(alloc), id, wrong),
     }
 }
 
-/// Returns the reply to the request of an identifier with a member, whose value is JSON.
-fn reply_with(
+/// Returns the reply to the request of an identifier that says what is wrong, written into an empty buffer.
+pub(crate) fn failure(
     alloc: Global,
+    buffer: Vec<u8>,
     id: &Value<'_>,
-    name: &str,
-    content: &str,
+    wrong: Wrong,
 ) -> Result<String, AllocError>
-    ensures { (j : Json) → IsJson j content.now → IfOk result (IsReplyWith name.now j (value_view id.now)) }
+    ensures { buffer.items ≡ [] → IfOk result (IsReplyFor (value_view id.now) (Err wrong)) }
 {
-    let mut out = begin_message(alloc)?;
+    let mut out = begin_message(buffer)?;
     put_id(&mut out, id)?;
-    out.key(name)?;
+    out.key("error")?;
+    wrong.put(&mut out)?;
+    out.end_object()?;
+    Ok(end(alloc, out))
+}
+
+/// Returns the reply to the request of an identifier with a result, which is JSON.
+fn success(alloc: Global, id: &Value<'_>, content: &str) -> Result<String, AllocError>
+    ensures { (j : Json) → IsJson j content.now → IfOk result (IsReplyWith (codes "result") j (value_view id.now)) }
+{
+    let mut out = begin_message(Vec::new(alloc))?;
+    put_id(&mut out, id)?;
+    out.key("result")?;
     let mut reply = end(alloc, out);
     reply.push_str(content)?;
     reply.push_str("}")?;
@@ -184,7 +195,7 @@ fn reply_with(
 
 /// Returns a message for the log of the client.
 pub(crate) fn log_notice(alloc: Global, text: &str) -> Result<String, AllocError>
-    ensures { IfOk result IsLog }
+    ensures { IfOk result (IsLogWith text.now) }
 {
     let mut out = begin_notice(alloc, "window/logMessage")?;
     out.begin_object()?;

@@ -84,11 +84,11 @@ module _ (w f : List ℕ) (e : ℕ) where
   so_whole : (b : Bool) (n : ℕ) → AllDigits 10 ds → n * 10 ^ down b ≡ value ds * 10 ^ up b → value (drop (point b) ds) ≡ 0
   so_whole true n all is = elim (cases_lt (length w) e) [
     | inl far ↦ (
-      let none : length w - e ≡ 0 = omega arith in
-      let more : 10 ^ length ds ≤ 10 ^ (length f + e) = pow-le-pow_right (omega arith) (omega (arith, length-append w f)) in
-      let less : value ds < 10 ^ (length f + e) = omega (arith, digits_value-lt 10 ds all, more) in
-      ap (λ k. value (drop k ds)) none ∙ no_rest n 0 (value ds) (length f + e) less (omega (arith, is))
-    )
+        let none : length w - e ≡ 0 = omega arith in
+        let more : 10 ^ length ds ≤ 10 ^ (length f + e) = pow-le-pow_right (omega arith) (omega (arith, length-append w f)) in
+        let less : value ds < 10 ^ (length f + e) = omega (arith, digits_value-lt 10 ds all, more) in
+        ap (λ k. value (drop k ds)) none ∙ no_rest n 0 (value ds) (length f + e) less (omega (arith, is))
+        )
     | inr near ↦ within true n all (omega (arith, length-append w f)) is
   ]
   so_whole false n all is = elim (cases_lt (length f) e) [
@@ -109,20 +109,20 @@ module _ (w f : List ℕ) (e : ℕ) where
   whole_so : (b : Bool) → value (drop (point b) ds) ≡ 0 → value ds * 10 ^ up b ≡ value (take (point b) ds) * 10 ^ (point b - length ds) * 10 ^ down b
   whole_so true rest = elim (cases_lt (length w) e) [
     | inl far ↦ (
-      let none : length w - e ≡ 0 = omega arith in
-      let all : value ds ≡ 0 = ap (λ k. value (drop k ds)) (sym none) ∙ rest in
-      let front : value (take (length w - e) ds) ≡ 0 = ap (λ k. value (take k ds)) none in
-      ap (λ x. x * 1) all ∙ zero_times _ _ ∙ ap (λ x. x * 10 ^ (length w - e - length ds) * 10 ^ (length f + e)) (sym front)
-    )
+        let none : length w - e ≡ 0 = omega arith in
+        let all : value ds ≡ 0 = ap (λ k. value (drop k ds)) (sym none) ∙ rest in
+        let front : value (take (length w - e) ds) ≡ 0 = ap (λ k. value (take k ds)) none in
+        ap (λ x. x * 1) all ∙ zero_times _ _ ∙ ap (λ x. x * 10 ^ (length w - e - length ds) * 10 ^ (length f + e)) (sym front)
+        )
     | inr near ↦ inside true (omega (arith, length-append w f)) (omega (arith, length-append w f)) rest
   ]
   whole_so false rest = elim (cases_lt (length f) e) [
     | inl far ↦ (
-      let past = length w + e - length ds in
-      let same : e ≡ past + (length f + 0) = omega (arith, length-append w f) in
-      ap (λ k. value ds * 10 ^ k) same ∙ moved (value ds) past (length f + 0)
-      ∙ ap (λ xs. value xs * 10 ^ past * 10 ^ (length f + 0)) (sym (take_all (length w + e) ds (omega (arith, length-append w f))))
-    )
+        let past = length w + e - length ds in
+        let same : e ≡ past + (length f + 0) = omega (arith, length-append w f) in
+        ap (λ k. value ds * 10 ^ k) same ∙ moved (value ds) past (length f + 0)
+        ∙ ap (λ xs. value xs * 10 ^ past * 10 ^ (length f + 0)) (sym (take_all (length w + e) ds (omega (arith, length-append w f))))
+        )
     | inr near ↦ inside false (omega (arith, length-append w f)) (omega (arith, length-append w f)) rest
   ]
 
@@ -141,7 +141,7 @@ module _ (text : List ℕ) (n : ℕ) where
   by_result (Some m) digits some found = (
     λ is. ap Some (found.1 ∙ (to digits is).1),
     λ e. (let same : whole_of p ≡ n = sym found.1 ∙ ap (λ o. unwrap_or o m) e in
-    (sym some, subst (λ k. k * 10 ^ tens_down p ≡ digits_of p * 10 ^ tens_up p) same (sym (whole_so p.whole p.fraction (value p.exponent) p.exponent_negative found.0.0)), subst (λ k. k < 2 ^ 64) same found.0.1)),
+        (sym some, subst (λ k. k * 10 ^ tens_down p ≡ digits_of p * 10 ^ tens_up p) same (sym (whole_so p.whole p.fraction (value p.exponent) p.exponent_negative found.0.0)), subst (λ k. k < 2 ^ 64) same found.0.1)),
   )
 
   -- what is returned is the number, if there is one

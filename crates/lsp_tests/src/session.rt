@@ -25,9 +25,9 @@ pub(crate) fn take_at_once(rt: &HostRuntime, alloc: Global) -> io::Result<()> {
         write_frame(&mut input, message)?;
     }
     let mut output = Vec::new(alloc);
-    let was_down = serve(alloc, &mut input.as_slice(), &mut output)?;
+    let end = serve(alloc, &mut input.as_slice(), &mut output)?;
     for message in &messages_of(alloc, &[output])? {
         println!(rt; "{}", from_utf8(message).unwrap_or("no text"))?;
     }
-    println!(rt; "shutdown came before exit: {was_down}")
+    println!(rt; "{}", end.why().unwrap_or("exit came after shutdown"))
 }

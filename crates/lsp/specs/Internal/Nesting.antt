@@ -1,5 +1,5 @@
 -- Where a writer of JSON is: which brackets are open, and what may come next.
-use Rattle.std.specs.Prelude.{◌≡◌, ◌++◌, ◌∷◌, [], ℕ, zero, suc, List, codes, fold}
+use Rattle.std.specs.Prelude.{◌≡◌, ◌++◌, ◌∷◌, [], ℕ, zero, suc, Bool, true, false, List, Option, Some, codes, fold}
 use Rattle.json.specs.Token.{Token, bad, begin_array, begin_object, boolean, end_array, end_object, key, null, number, string}
 use Rattle.json.specs.Written.{Written}
 use Rattle.lsp.specs.Messages.{encoding_name}
@@ -73,6 +73,11 @@ WritesMembers old new = (n : Nesting) → nesting old ≡ Members n → nesting 
 -- a writer has written more
 abbrev pub Grows : Written → Written → Type 0
 Grows old new = (new.before ≡ old.before) × ((more : List Token) × (new.tokens ≡ old.tokens ++ more))
+
+-- a token begins an object
+abbrev pub begins_object : Option Token → Bool
+begins_object (Some begin_object) = true
+begins_object _ = false
 
 -- the tokens with which the result of `initialize` begins: what positions count
 abbrev pub greeting_head : Encoding → List Token

@@ -1,12 +1,12 @@
 use Rattle.std.proofs.Common.{arith, ◌≡◌, ◌∙◌, ap, get_or, inl, inr, length, sym}
 use Rattle.lsp.proofs.Fronts.{greeting_32, greeting_8}
 use Rattle.lsp.proofs.Sending.{none_replies}
-use Rattle.lsp.proofs.Steps.{not_over, not_published}
+use Rattle.lsp.proofs.Steps.{not_ended, not_published}
 use Rattle.lsp.proofs.Texts.{empty_is_none}
 use Rattle.lsp.proofs.laws.turns_are_not_so.Goals as goal
 
 pub returns-clause-silent : goal.returns-clause-silent
-returns-clause-silent c old new message id asks takes = none_replies id (takes.replied id asks)
+returns-clause-silent c old new message id asks takes = none_replies _ (takes.replied id asks)
 
 pub returns-clause-deaf : goal.returns-clause-deaf
 returns-clause-deaf c old new takes = let r = takes.refused empty_is_none in none_replies _ r.2
@@ -22,7 +22,7 @@ pub returns-clause-unpublished : goal.returns-clause-unpublished
 returns-clause-unpublished c message sent p = not_published message sent p
 
 pub returns-clause-on : goal.returns-clause-on
-returns-clause-on c s running over = not_over s running over
+returns-clause-on c = not_ended
 
 pub returns-clause-fresh : goal.returns-clause-fresh
 returns-clause-fresh c s running new = let h = sym running ∙ new.0 in absurd (cc (h))

@@ -1,15 +1,18 @@
-use Rattle.std.proofs.Common.{◌≡◌, ◌∙◌, ap}
-use Rattle.lsp_documents.specs.declared.state.Phase.TheVariants.{New}
-use Rattle.lsp_documents.specs.declared.state.State.{State}
-use Rattle.lsp.proofs.Sending.{started_pushed}
+use Rattle.std.proofs.Common.{arith, ◌∙◌, ap, codes, inl, inr, length, subst}
+use Rattle.json.specs.Value.{value_view}
+use Rattle.lsp.specs.Contents.{IsAnswer}
+use Rattle.lsp.proofs.Answering.{other_content}
+use Rattle.lsp.proofs.Sending.{reply_last}
 use Rattle.lsp.proofs.message.request.Goals as goal
-use Rattle.lsp.proofs.message.request.Goals.{then-eq+in_ok-publish_due, else-eq}
 
-pub returns-clause-started : goal.returns-clause-started
-returns-clause-started c early is =
-    let phase : State → _ = λ s. s.phase in
-    let now : c.if-eq.state.phase ≡ New = elim c.if-eq.branch [
-      | then-eq+in_ok-publish_due w ↦ ap phase w.state-is ∙ w.publish_due.ensures.phase ∙ early
-      | else-eq w ↦ ap phase w.state-is ∙ early
+pub returns-clause-answered : goal.returns-clause-answered
+returns-clause-answered c running =
+    let id = value_view c.args.id.now in
+    let method = c.args.method.now in
+    let params = value_view c.args.params.now in
+    let a = c.in_ok-any_reply.ensures.answered (c.before_reply-out.ensures.session.0 ∙ running) in
+    let is : IsAnswer c.args.state.now id method params c.in_ok-any_reply.field-0 = elim c.before_reply-out.ensures.same [
+      | inl down ↦ (a.0, other_content c.args.state.now method params a.0 (omega (arith, ap length down)), a.2)
+      | inr same ↦ subst (λ s. IsAnswer s id method params c.in_ok-any_reply.field-0) same a
     ] in
-    started_pushed _ _ _ _ c.any_reply.new.state c.in_ok-push.ensures.items (c.in_ok-reply.ensures.started now is)
+    reply_last (IsAnswer c.args.state.now id method params) _ _ _ c.in_ok-push.ensures.items c.before_reply-out.ensures.notices is

@@ -1,7 +1,9 @@
-use Rattle.std.proofs.Common.{rules, ◌≡◌, ◌∙◌, IsSomeAnd, Option, None, Some, ap, option_map, subst, sym, unwrap_or}
+use Rattle.std.proofs.Common.{rules, ◌≡◌, ◌⊎◌, ◌∙◌, IfOk, IsSomeAnd, Option, None, Some, ap, codes, option_map, subst, sym, unwrap_or}
 use Rattle.json.specs.Json.{null}
 use Rattle.json.specs.Value.{value_view}
 use Rattle.lsp.specs.Messages.{method_of, params_of}
+use Rattle.lsp.specs.Replies.{IsFailure, IsGreeting, OneReply}
+use Rattle.lsp_documents.specs.declared.state.Phase.TheVariants.{Running}
 use Rattle.lsp_documents.specs.Notes.{Changed, Tells}
 use Rattle.lsp.proofs.Sending.{null_is_null}
 use Rattle.lsp.proofs.message.take.Goals as goal
@@ -39,4 +41,20 @@ returns-in-Some-None-clause-due c running note tells =
     let params : value_view c.unwrap_or-params.result.now ≡ params_of j =
     of_either (λ p. value_view p.now) c.get.result _ c.unwrap_or-params.result _ null c.unwrap_or-params.ensures c.get.ensures null_is_null in
     c.notification.ensures.due running note
+    (subst (λ p. Tells c.in-Some-None.method.now p note) (sym params) (subst (λ m. IsSomeAnd m (λ name. Tells name (params_of j) note)) method tells))
+
+pub returns-in-Some-Some-clause-started : goal.returns-in-Some-Some-clause-started
+returns-in-Some-Some-clause-started c early id starts =
+    let same : value_view c.in-Some-Some.id.now ≡ id = search rules in
+    let is : c.in-Some-Some.method.now ≡ codes "initialize" = search rules in
+    let new = c.request.new.state in
+    subst (λ i. IfOk c.request.result (λ out. OneReply (λ m. IsFailure i m ⊎ ((new.phase ≡ Running) × IsGreeting i new.client.encoding m)) out.items)) same (c.request.ensures.started early is)
+
+pub returns-in-Some-None-clause-told : goal.returns-in-Some-None-clause-told
+returns-in-Some-None-clause-told c running note texts tells =
+    let j = value_view c.args.message.now in
+    let method : method_of j ≡ Some c.in-Some-None.method.now = search rules in
+    let params : value_view c.unwrap_or-params.result.now ≡ params_of j =
+    of_either (λ p. value_view p.now) c.get.result _ c.unwrap_or-params.result _ null c.unwrap_or-params.ensures c.get.ensures null_is_null in
+    c.notification.ensures.told running note texts
     (subst (λ p. Tells c.in-Some-None.method.now p note) (sym params) (subst (λ m. IsSomeAnd m (λ name. Tells name (params_of j) note)) method tells))
