@@ -1,5 +1,5 @@
 -- Texts of the program itself are shown.
-use Rattle.std.proofs.Common.{◌≡◌, ◌∙◌, [], List, Some, codes, false, subst, sym, ℕ}
+use Rattle.std.proofs.Common.{◌≡◌, ◌∙◌, [], List, Some, false, subst, sym, ℕ}
 use Rattle.cli_words.proofs.Written.{some_page, some_script}
 use Rattle.cli_words.specs.Template.{IsManual, IsScript}
 use Rattle.cli_words.specs.declared.completions.Shell.{Shell}

@@ -1,5 +1,5 @@
 -- Requests that are read token by token.
-use Rattle.std.proofs.Common.{arith, ◌≡◌, ◌∙◌, ◌-◌, ◌+◌, ◌<◌, ◌≤◌, [], ◌∷◌, ℕ, true, false, List, Option, None, Some, IsSome, IsSomeAnd, MatchOption, ap, codes, cond, length, option_and_then, option_map, refl, subst, sym}
+use Rattle.std.proofs.Common.{arith, ◌≡◌, ◌∙◌, ◌-◌, ◌<◌, ◌≤◌, [], ◌∷◌, ℕ, true, false, List, Option, None, Some, IsSome, IsSomeAnd, MatchOption, ap, codes, cond, length, option_and_then, option_map, refl, subst, sym}
 use Rattle.std.proofs.lemmas.Slice.Eq.{bytes_eq-Decides}
 use Rattle.std.specs.Bool.{Decides}
 use Rattle.std.specs.Prelude as bool

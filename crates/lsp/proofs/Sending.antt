@@ -1,5 +1,5 @@
 -- Messages that are sent.
-use Rattle.std.proofs.Common.{arith, suc, ◌≡◌, ◌⊎◌, ◌++◌, ◌∷◌, ◌<◌, ◌+◌, ◌∙◌, [], ℕ, All, List, Option, None, Some, String, Vec, Global, Contains, IfOk, IfSome, IsNone, IsSome, IsSomeAnd, MatchOption, OnOk, Result, Ok, Err, ap, codes, drop, get_or, IsErr, inl, inr, length, length-append, refl, string_bytes, subst, sym}
+use Rattle.std.proofs.Common.{arith, suc, ◌≡◌, ◌⊎◌, ◌++◌, ◌∷◌, ◌<◌, ◌+◌, ◌∙◌, [], ℕ, All, List, Option, None, Some, String, Vec, Global, Contains, IfOk, IfSome, IsNone, IsSome, IsSomeAnd, MatchOption, OnOk, Result, Ok, Err, ap, drop, get_or, IsErr, inl, inr, length, length-append, refl, string_bytes, subst, sym}
 use Rattle.std.specs.BTreeMap.{IsEmpty, get_by_text}
 use Rattle.std.proofs.lemmas.List.{append-nil, append_assoc}
 use Rattle.std.proofs.lemmas.List.Elements.{All-append, All-cons, All-nil, Contains-append_left, Contains-push}
@@ -8,16 +8,15 @@ use Rattle.json.specs.declared.value.Value.TheOpen.{Value-F}
 use Rattle.json.specs.declared.value.Value.TheVariants.{Null, rolls-Null}
 use Rattle.json.specs.Json.{Json, document, null}
 use Rattle.json.specs.Value.{value_view, view_step}
-use Rattle.lsp_documents.specs.Notes.{Agrees, IsOf, Texts, Note, Opened, Changed, Closed, after}
+use Rattle.lsp_documents.specs.Notes.{IsOf, Note, Opened, Changed, Closed, after}
 use Rattle.lsp_documents.specs.Outcomes.{IsTaken, MarksDue}
 use Rattle.lsp_documents.specs.States.{SessionStays, is_over}
 use Rattle.lsp_documents.specs.declared.state.Phase.TheVariants.{New, Running}
 use Rattle.lsp_documents.specs.declared.state.State.{State}
 use Rattle.lsp.specs.Contents.{IsAnswer}
-use Rattle.lsp.specs.Faults.{IsFaultsNotice, PublishEach, known_at, notice_end, notice_tokens}
-use Rattle.lsp.specs.Replies.{IsFailure, IsGreeting, IsLog, IsLogOf, IsLogWith, IsNotice, IsReplyTo, Logs, LogsOf, OneReply}
-use Rattle.lsp.specs.Messages.{AsksForIn, AsksIn, IsIgnored, StartsIn, TellsIn, method_of}
-use Rattle.lsp.specs.Turns.{Marks, Publishes, Takes, sent_of}
+use Rattle.lsp.specs.Faults.{PublishEach, known_at}
+use Rattle.lsp.specs.Replies.{IsFailure, IsGreeting, IsLogOf, IsLogWith, IsNotice, IsReplyTo, Logs, LogsOf, OneReply}
+use Rattle.lsp.specs.Turns.{Publishes, Takes, sent_of}
 use Rattle.lsp.proofs.Publishing.{EachBy}
 
 -- `null` as JSON
@@ -192,7 +191,7 @@ unfolding OneReply
 alone Is m ([], k, rear, split, is, notices) = let same : m ≡ k = ap (λ l. get_or l 0 m) split in subst Is (sym same) is
 alone Is m (x ∷ xs, k, rear, split, is, notices) = let h : 1 ≡ suc (length xs + suc (length rear)) = ap length split ∙ ap suc (length-append xs (k ∷ rear)) in absurd (omega (arith, h))
 
--- ---- messages that no document is open after
+-- ---- messages that are sent
 
 pub some_sent : {E : Type 0} (r : Result (Vec (String Global) Global) E) (P : List (String Global) → Type 0) → IfOk r (λ out. P out.items) → IfSome (sent_of r) P
 some_sent (Ok out) P p = p
@@ -201,55 +200,3 @@ some_sent (Err e) P p = tt
 pub sent_of_all : {E : Type 0} (r : Result (Vec (String Global) Global) E) (P : Type 0) → P → IfSome (sent_of r) (λ _. P)
 sent_of_all (Ok out) P p = p
 sent_of_all (Err e) P p = tt
-
-abbrev Refused : List ℕ → State → List (String Global) → Type 0
-Refused message new ms = (document message ≡ None) × IsEmpty new.open × OneReply (IsReplyTo null) ms × Logs ms
-
-pub refused_sent : {E : Type 0} (r : Result (Vec (String Global) Global) E) (message : List ℕ) (new : State) → document message ≡ None → IsEmpty new.open → IfOk r (λ out. OneReply (IsReplyTo null) out.items) → IfOk r (λ out. Logs out.items)
-    → IfSome (sent_of r) (Refused message new)
-refused_sent (Ok out) message new none empty reply logs = (none, empty, reply, logs)
-refused_sent (Err e) message new none empty reply logs = tt
-
--- a text tells nothing that is not JSON
-untold : (message : List ℕ) (P : Json → Type 0) (Q : Type 0) → document message ≡ None → IsSomeAnd (document message) P → Q
-untold message P Q none so = absurd (subst (λ o. IsSomeAnd o P) none so)
-
-pub takes_closed : (old new : State) (message : List ℕ) (sent : Option (List (String Global))) → SessionStays old new → ((texts : Texts) → Agrees new texts) → IfSome sent (Refused message new) → Takes old message sent new
-takes_closed old new message None s agrees refused = record {
-  refused = λ none. tt;
-  told = λ running note texts tells so. agrees (after old.client.encoding note texts);
-  untold = λ none texts so. agrees texts;
-  session = λ note tells. s;
-  stays = λ uri changes tells. tt;
-  others = λ some. tt;
-  all = λ quiet. tt;
-  taken = λ running note tells. tt;
-  replied = λ id asks. tt;
-  unasked = λ notifies. tt;
-  answered = λ running id method params asks. tt;
-  started = λ early id starts. tt;
-  client = inl s.1;
-  exited = λ exits. tt;
-  goes_on = λ none. ap is_over s.0;
-}
-takes_closed old new message (Some ms) s agrees (none, empty, reply, logs) = record {
-  refused = λ _. (empty, s, reply, logs);
-  told = λ running note texts tells so. agrees (after old.client.encoding note texts);
-  untold = λ _ texts so. agrees texts;
-  session = λ note tells. s;
-  stays = λ uri changes tells. untold message (λ j. TellsIn j (Changed uri changes)) _ none tells;
-  others = λ some. (let h = subst IsSome none some in absurd (cc (h)));
-  all = λ quiet. untold message (λ j. IfSome (method_of j) IsIgnored) _ none quiet;
-  taken = λ running note tells. untold message (λ j. TellsIn j note) _ none tells;
-  replied = λ id asks. untold message (λ j. AsksIn j id) _ none asks;
-  unasked = λ notifies. untold message (λ j. IsSome (method_of j)) _ none notifies;
-  answered = λ running id method params asks. untold message (λ j. AsksForIn j id method params) _ none asks;
-  started = λ early id starts. untold message (λ j. StartsIn j id) _ none starts;
-  client = inl s.1;
-  exited = λ exits. untold message (λ j. method_of j ≡ Some (codes "exit")) _ none exits;
-  goes_on = λ _. ap is_over s.0;
-}
-
-pub marks_closed : (old new : State) (message : List ℕ) (sent : Option (List (String Global))) → IfSome sent (Refused message new) → Marks old message sent new
-marks_closed old new message None refused running note tells = tt
-marks_closed old new message (Some ms) (none, empty, reply, logs) running note tells = untold message (λ j. TellsIn j note) _ none tells

@@ -1,5 +1,5 @@
 -- What a server returns for a request in a session.
-use Rattle.std.specs.Prelude.{◌≡◌, ◌⊎◌, ℕ, List, Contains, Option, None, Some, Result, Err, MatchResult, IsOkAnd, IsSomeAnd, String, codes, ok_or, option_and_then, option_map, string_bytes}
+use Rattle.std.specs.Prelude.{◌≡◌, ◌⊎◌, ℕ, List, Option, None, Some, Result, Err, MatchResult, IsOkAnd, IsSomeAnd, String, codes, ok_or, option_and_then, option_map, string_bytes}
 use Rattle.std.specs.Global.{Global}
 use Rattle.json.specs.Find.{get}
 use Rattle.json.specs.Json.{Json}

@@ -14,7 +14,6 @@ use Rattle.lsp.specs.declared.write.Wrong.TheVariants.{Memory}
 use Rattle.lsp_documents.specs.Notes.{Agrees, Changed, Note, Texts, after}
 use Rattle.lsp_documents.specs.Outcomes.{IsTaken, MarksDue, StaysOpen}
 use Rattle.lsp_documents.specs.States.{SessionStays, document_at, is_down, is_over}
-use Rattle.lsp_documents.specs.declared.state.Phase.{Phase}
 use Rattle.lsp_documents.specs.declared.state.Phase.TheVariants.{New, Running, Over}
 use Rattle.lsp_documents.specs.declared.state.State.{State}
 use Rattle.lsp_frames.specs.Frames.{AreFrames, frame_in, frame_of, is_bad}

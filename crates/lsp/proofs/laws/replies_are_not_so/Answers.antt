@@ -1,5 +1,4 @@
 use Rattle.std.proofs.Common.{arith, ◌≡◌, ◌∙◌, ap, get_or, sym}
-use Rattle.lsp.specs.Replies.{IsNotice}
 use Rattle.lsp.proofs.Fronts.{notice_byte, reply_a, reply_b, reply_byte, reply_uncut}
 use Rattle.lsp.proofs.Sending.{none_logs, none_replies, not_twice}
 use Rattle.lsp.proofs.laws.replies_are_not_so.Goals as goal

@@ -3,7 +3,7 @@ use Rattle.std.proofs.lemmas.List.Elements.{All-cons, All-nil}
 use Rattle.json.specs.Json.{null}
 use Rattle.lsp.specs.Replies.{IsNotice, IsReplyFor, IsReplyTo}
 use Rattle.lsp.specs.declared.write.Wrong.TheVariants.{Parse}
-use Rattle.lsp.proofs.Sending.{null_is_null, log_is_notice, logs_last, one_notice, reply_alone, reply_more}
+use Rattle.lsp.proofs.Sending.{null_is_null, log_is_notice, logs_last, reply_alone, reply_more}
 use Rattle.lsp.proofs.message.refuse.Goals as goal
 
 pub returns-clause-replied : goal.returns-clause-replied

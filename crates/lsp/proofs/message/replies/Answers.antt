@@ -1,7 +1,7 @@
 use Rattle.std.proofs.Common.{◌≡◌, IfSome, IsSome, IsSomeAnd, Some, codes, subst, sym}
 use Rattle.lsp.specs.Messages.{AsksForIn, AsksIn, IsIgnored, StartsIn, TellsIn, method_of, params_of}
 use Rattle.lsp_documents.specs.Notes.{Changed, uri_of}
-use Rattle.lsp.proofs.Sending.{marks_closed, refused_sent, sent_of_all, some_sent, takes_closed}
+use Rattle.lsp.proofs.Sending.{sent_of_all, some_sent}
 use Rattle.lsp.proofs.message.replies.Goals as goal
 
 pub returns-in-Ok-clause-takes : goal.returns-in-Ok-clause-takes

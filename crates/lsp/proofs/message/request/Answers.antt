@@ -1,4 +1,4 @@
-use Rattle.std.proofs.Common.{arith, ◌∙◌, ap, codes, inl, inr, length, subst}
+use Rattle.std.proofs.Common.{arith, ◌∙◌, ap, inl, inr, length, subst}
 use Rattle.json.specs.Value.{value_view}
 use Rattle.lsp.specs.Contents.{IsAnswer}
 use Rattle.lsp.proofs.Answering.{other_content}

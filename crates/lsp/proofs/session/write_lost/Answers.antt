@@ -1,4 +1,4 @@
-use Rattle.std.proofs.Common.{◌≡◌, ◌∷◌, [], ℕ, List, Option, String, Global, Err, MatchOption, append-nil, inl, inr, refl, string_bytes, subst, sym}
+use Rattle.std.proofs.Common.{◌∷◌, [], ℕ, List, Option, String, Global, Err, MatchOption, append-nil, inl, inr, refl, string_bytes, subst, sym}
 use Rattle.std.proofs.lemmas.Result.{on_ok_weaker}
 use Rattle.std.specs.Io.KnownBytes.{Appends}
 use Rattle.json.specs.Json.{Json}
