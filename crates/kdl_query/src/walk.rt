@@ -124,11 +124,10 @@ impl<'a, 'q> Level<'a, 'q> {
 fn indices(alloc: Global, levels: &[Level<'_, '_>], after: usize) -> Result<Vec<usize>, AllocError>
     ensures { IfOk result (λ p. p.items ≡ map (λ l. l.current) (drop after levels.now)) }
 {
-    levels
-        .iter()
-        .skip(after)
-        .map(|level| level.current)
-        .collect(alloc)
+    match levels.get(after..) {
+        Some(rest) => rest.iter().map(|level| level.current).collect(alloc),
+        None => Ok(Vec::new(alloc)),
+    }
 }
 
 impl<'a, 'q> Walk<'a, 'q> {
