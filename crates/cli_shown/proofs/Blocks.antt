@@ -1,4 +1,4 @@
--- The blocks that a path goes through.
+-- The blocks that a path goes through, and its steps.
 use Rattle.std.proofs.Common.{◌≡◌, ◌∙◌, ◌<◌, ◌+◌, ℕ, zero, suc, Bool, true, false, List, [], ◌∷◌, ◌++◌, Option, Some, None, inl, inr, ap, append_assoc, arith, bytes_eq, drop, get_or, length, map, option_map, refl, slice_get, string_bytes, subst, sym, take}
 use Rattle.std.proofs.lemmas.Option.{get_or_from_slice_get, slice_get-map}
 use Rattle.std.proofs.Math.Seq.{take-suc}
@@ -15,9 +15,9 @@ use Rattle.kdl.specs.declared.node.KdlNode.{KdlNode, out-KdlNode}
 use Rattle.kdl_parts.proofs.EntryLookups.{same_bytes}
 use Rattle.kdl_parts.specs.EntryLists.{same_text}
 use Rattle.kdl_query.specs.Selects.{Path}
-use Rattle.cli_shown.specs.Names.{named_before, index_bytes, name_bytes, path_bytes, separator, step_bytes}
-use Rattle.cli_shown.specs.Internal.Trail.{AreRanks, AreRanksAlong, IsAt, inside_at}
-use Rattle.cli_shown.proofs.Steps.{counted, stepped}
+use Rattle.cli_shown.specs.Names.{named_before, index_bytes, name_bytes, step_bytes}
+use Rattle.cli_shown.specs.Internal.Trail.{AreFirst, AreRanks, AreRanksAlong, IsAt, inside_at, step_texts}
+use Rattle.cli_shown.proofs.Steps.{counted}
 
 -- the blocks that all paths with the same first steps go through
 pub turned : (kept p q : Path) (rs : List (List ℕ)) (xs : List NodeData) → AreRanksAlong rs (kept ++ p) xs → AreRanksAlong (take (suc (length kept)) rs) (kept ++ q) xs
@@ -116,9 +116,6 @@ at_next rs d i p whole xs top h l =
     subst (λ (n : ℕ). IsAt rs n p (inside_at i xs) whole top) (sym next)
     (omega (arith, l), here.1, λ below k. subst (λ (s : List (List ℕ)). AreRanksAlong s whole top) (longer below) (h.2 (r ∷ below) (here.0, k)))
 
-step_said : (i k : ℕ) (xs : List NodeData) (n : NodeData) (old step : List ℕ) → step ≡ old ++ name_bytes (said_name n) ++ index_bytes k → k ≡ named_before i (said_name n) xs → step ≡ old ++ step_bytes i xs n
-step_said i k xs n old step a e = a ∙ append_assoc old (name_bytes (said_name n)) (index_bytes k) ∙ ap (λ (m : ℕ). old ++ (name_bytes (said_name n) ++ index_bytes m)) e
-
 -- the rank that is known of a node
 rank_is : (rs : List (List ℕ)) (d i : ℕ) (p whole : Path) (xs top : List NodeData) (n : NodeData) → IsAt rs d (i ∷ p) xs whole top → d < length rs → slice_get xs i ≡ Some n → get_or (get_or rs d []) i 0 ≡ named_before i (said_name n) xs
 rank_is rs d i p whole xs top n h l g = get_or_from_slice_get (get_or rs d []) i (named_before i (said_name n) xs) 0 ((known rs d i p whole xs top h l).0 i n g)
@@ -127,13 +124,55 @@ inside_is : (i : ℕ) (xs : List NodeData) (n : NodeData) → slice_get xs i ≡
 inside_is i xs n g = ap (λ o. option_map_or said_child_nodes o []) g
 
 -- one step, and the rest of the path in the block of its node
-pub moved : (rs : List (List ℕ)) (d i : ℕ) (p whole : Path) (ns kids : List KdlNode) (top : List NodeData) (n : KdlNode) (old step sep : List ℕ) → IsAt rs d (i ∷ p) (map node_says ns) whole top → d < length rs
+pub moved : (rs : List (List ℕ)) (d i : ℕ) (p whole : Path) (ns kids : List KdlNode) (top : List NodeData) (n : KdlNode) → IsAt rs d (i ∷ p) (map node_says ns) whole top → d < length rs
     → slice_get ns i ≡ Some n → map node_says kids ≡ said_child_nodes (node_says n)
-    → step ≡ old ++ name_bytes (said_name (node_says n)) ++ index_bytes (get_or (get_or rs d []) i 0) → sep ≡ step ++ separator p
-    → (sep ++ path_bytes p (map node_says kids) ≡ old ++ path_bytes (i ∷ p) (map node_says ns)) × IsAt rs (d + 1) p (map node_says kids) whole top
-moved rs d i p whole ns kids top n old step sep at l there inside a b =
+    → (name_bytes (said_name (node_says n)) ++ index_bytes (get_or (get_or rs d []) i 0) ≡ step_bytes i (map node_says ns) (node_says n))
+    × (step_texts (i ∷ p) (map node_says ns) ≡ step_bytes i (map node_says ns) (node_says n) ∷ step_texts p (map node_says kids)) × IsAt rs (d + 1) p (map node_says kids) whole top
+moved rs d i p whole ns kids top n at l there inside =
     let xs = map node_says ns in
-    let g : slice_get xs i ≡ Some (node_says n) = slice_get-map node_says ns i ∙ ap (option_map node_says) there in (
-      stepped i p ns kids n old step sep there inside (step_said i (get_or (get_or rs d []) i 0) xs (node_says n) old step a (rank_is rs d i p whole xs top (node_says n) at l g)) b,
-      subst (λ (ys : List NodeData). IsAt rs (d + 1) p ys whole top) (inside_is i xs (node_says n) g ∙ sym inside) (at_next rs d i p whole xs top at l),
+    let m = node_says n in
+    let g : slice_get xs i ≡ Some m = slice_get-map node_says ns i ∙ ap (option_map node_says) there in (
+      ap (λ (k : ℕ). name_bytes (said_name m) ++ index_bytes k) (rank_is rs d i p whole xs top m at l g),
+      ap (λ o. option_map_or (λ y. step_bytes i xs y ∷ step_texts p (said_child_nodes y)) o []) g ∙ ap (λ (ys : List NodeData). step_bytes i xs m ∷ step_texts p ys) (sym inside),
+      subst (λ (ys : List NodeData). IsAt rs (d + 1) p ys whole top) (inside_is i xs m g ∙ sym inside) (at_next rs d i p whole xs top at l),
     )
+
+-- ---- the first steps of a path
+
+-- all paths with the same first steps have their texts
+pub turned_steps : (kept p q : Path) (ss : List (List ℕ)) (xs : List NodeData) → AreFirst ss (step_texts (kept ++ p) xs) → AreFirst (take (length kept) ss) (step_texts (kept ++ q) xs)
+turned_steps [] p q ss xs h = refl
+turned_steps (k ∷ kept) p q [] xs h = refl
+turned_steps (k ∷ kept) p q (s ∷ ss) xs h = go (slice_get xs k) (λ n. turned_steps kept p q ss (said_child_nodes n)) h
+  where
+    go : (o : Option NodeData) → ((n : NodeData) → AreFirst ss (step_texts (kept ++ p) (said_child_nodes n)) → AreFirst (take (length kept) ss) (step_texts (kept ++ q) (said_child_nodes n)))
+        → AreFirst (s ∷ ss) (option_map_or (λ n. step_bytes k xs n ∷ step_texts (kept ++ p) (said_child_nodes n)) o [])
+        → AreFirst (s ∷ take (length kept) ss) (option_map_or (λ n. step_bytes k xs n ∷ step_texts (kept ++ q) (said_child_nodes n)) o [])
+    go None further f = absurd (cc (f))
+    go (Some n) further f =
+        let first : s ≡ step_bytes k xs n = cc (f) in
+        let others : AreFirst ss (step_texts (kept ++ p) (said_child_nodes n)) = cc (f) in
+        let more = further n others in
+        cc (first, more)
+
+pub first_more : (ss all : List (List ℕ)) (s : List ℕ) → slice_get all (length ss) ≡ Some s → AreFirst ss all → AreFirst (ss ++ s ∷ []) all
+first_more ss [] s e h = absurd (cc (e))
+first_more [] (a ∷ all) s e h = cc (e)
+first_more (x ∷ ss) (a ∷ all) s e h =
+    let first : x ≡ a = cc (h) in
+    let others : AreFirst ss all = cc (h) in
+    let more : AreFirst (ss ++ s ∷ []) all = first_more ss all s e others in
+    cc (first, more)
+
+pub first_read : (ss all r : List (List ℕ)) (d : ℕ) (s : List ℕ) → drop d all ≡ s ∷ r → AreFirst ss all → d < length ss → get_or ss d [] ≡ s
+first_read [] all r d s e h l = absurd (omega (arith, l))
+first_read (x ∷ ss) [] r d s e h l = absurd (cc (h))
+first_read (x ∷ ss) (a ∷ all) r zero s e h l = cc (e, h)
+first_read (x ∷ ss) (a ∷ all) r (suc d) s e h l = let others : AreFirst ss all = cc (h) in first_read ss all r d s e others (omega (arith, l))
+
+-- the next text, and those after it
+pub next_text : (all r : List (List ℕ)) (d : ℕ) (s : List ℕ) → drop d all ≡ s ∷ r → (slice_get all d ≡ Some s) × (drop (suc d) all ≡ r)
+next_text [] r zero s e = absurd (cc (e))
+next_text [] r (suc d) s e = absurd (cc (e))
+next_text (a ∷ all) r zero s e = let first : a ≡ s = cc (e) in let others : all ≡ r = cc (e) in (ap Some first, others)
+next_text (a ∷ all) r (suc d) s e = next_text all r d s e

@@ -6,5 +6,5 @@ pub mod Texts
 pub mod Views
 -- The steps of a PATH.
 pub mod Steps
--- The blocks that a path goes through.
+-- The blocks that a path goes through, and its steps.
 pub mod Blocks

@@ -1,2 +1,2 @@
--- The blocks that a path goes through.
+-- The blocks that a path goes through, and its steps.
 pub mod Trail

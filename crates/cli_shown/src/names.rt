@@ -3,7 +3,7 @@
 ghost use Rattle.cli_shown.specs.Names.{begins_with_at, index_bytes, name_bytes, path_bytes, separator};
 ghost use Rattle.cli_shown.specs.Internal.Trail.{IsTrail};
 ghost use Rattle.kdl.specs.Words.{document_says, node_says, said_child_nodes, said_name, said_nodes};
-ghost use Rattle.std.specs.Prelude.{◌≡◌, ◌∷◌, ◌++◌, [], if◌then◌else◌, OnOk, chars, map, option_map, slice_get, string_bytes};
+ghost use Rattle.std.specs.Prelude.{◌≡◌, ◌∷◌, ◌++◌, [], if◌then◌else◌, IfOk, OnOk, chars, map, option_map, slice_get, string_bytes};
 
 use crate::trail::Trail;
 use itoa::Buffer;
@@ -48,7 +48,8 @@ fn push_steps(
             return Ok(());
         };
         trail.reach(alloc, depth, nodes)?;
-        push_step(alloc, out, node, trail.rank(depth, *index))?;
+        trail.reach_step(alloc, depth, *index, node)?;
+        out.push_str(trail.step(depth))?;
         push_separator(out, below)?;
         nodes = inside(node);
         rest = below;
@@ -85,13 +86,14 @@ fn push_separator(out: &mut String, path: &[usize]) -> Result<(), AllocError>
     }
 }
 
-/// Appends the step to a node: its name, and its rank.
-fn push_step(alloc: Global, out: &mut String, node: &KdlNode, rank: usize) -> Result<(), AllocError>
-    ensures { OnOk result (string_bytes out.new
-        ≡ string_bytes out.old ++ name_bytes (said_name (node_says node.now)) ++ index_bytes rank) }
+/// Returns the text of the step to a node: its name, and its rank.
+pub(crate) fn step_text(alloc: Global, node: &KdlNode, rank: usize) -> Result<String, AllocError>
+    ensures { IfOk result (λ s. string_bytes s ≡ name_bytes (said_name (node_says node.now)) ++ index_bytes rank) }
 {
-    push_name(alloc, out, node.name().value())?;
-    push_index(out, rank)
+    let mut text = String::new(alloc);
+    push_name(alloc, &mut text, node.name().value())?;
+    push_index(&mut text, rank)?;
+    Ok(text)
 }
 
 /// Appends an index between brackets, or nothing for 0.
