@@ -131,7 +131,7 @@ fn is_reply(message: &Value<'_>) -> bool {
     message.get("result").is_some() || message.get("error").is_some()
 }
 
-/// Takes a request. What is due is published before the session ends.
+/// Takes a request. What is due is published before the session ends. Room for the reply is made before the state changes.
 fn request(
     alloc: Global,
     state: &mut State,
@@ -148,6 +148,7 @@ fn request(
     ensures over { is_over state.new.phase ≡ is_over state.old.phase }
 {
     let mut out = before_reply(alloc, state, method);
+    out.reserve(1)?;
     out.push(any_reply(alloc, state, method, id, params)?)?;
     Ok(out)
 }
