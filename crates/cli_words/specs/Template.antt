@@ -2,7 +2,7 @@
 use Rattle.std.specs.Borrow.{Bor}
 use Rattle.std.specs.List.{flat_map, list_all}
 use Rattle.std.specs.Option.{option_map_or}
-use Rattle.std.specs.Prelude.{◌≡◌, ◌++◌, ◌∷◌, ◌==◌, [], Contains, List, chars, codes, encode_utf8, if◌then◌else◌, length, map, nat_lt, true, ℕ}
+use Rattle.std.specs.Prelude.{◌≡◌, ◌++◌, ◌∷◌, ◌==◌, ◌⊎◌, [], Contains, List, chars, codes, encode_utf8, if◌then◌else◌, length, map, nat_lt, true, ℕ}
 use Rattle.cli_words.specs.Words.{AreWords}
 use Rattle.cli_words.specs.declared.completions.Shell.{Shell}
 use Rattle.cli_words.specs.declared.completions.Shell.TheVariants.{Bash, Fish, Zsh}
@@ -93,10 +93,14 @@ unfoldable pub written : Template → List Word → List ℕ
 written t ws = t.title.now ++ flat_map (λ h. h.now) t.head.now ++ flat_map (word_parts t.escapes.now t.list.now) ws ++ t.middle.now
     ++ flat_map (word_parts t.escapes.now t.section.now) ws ++ t.end.now
 
--- the template lists the name of each word, and has a section of each word with its name and the names of its flags
+-- a part is written for each flag of each word
+abbrev pub HasForFlags : Template → FlagPart → Type 0
+HasForFlags t part = (parts : Bor (List FlagPart)) × Contains t.section.now (word.Flags parts) × Contains parts.now part
+
+-- the template lists the name of each word, and has a section of each word with its name, the names of its flags, and what completes their values or the names of the values
 abbrev pub HasNames : Template → Type 0
-HasNames t = Contains t.list.now word.Name × Contains t.section.now word.Name
-    × ((parts : Bor (List FlagPart)) × Contains t.section.now (word.Flags parts) × Contains parts.now flag.Long)
+HasNames t = Contains t.list.now word.Name × Contains t.section.now word.Name × HasForFlags t flag.Long × ((before after : Bor (List ℕ)) × HasForFlags t (flag.Short before after))
+    × (((by : Completion) × HasForFlags t (flag.Values by)) ⊎ ((before after : Bor (List ℕ)) × HasForFlags t (flag.Value before after)))
 
 -- the template is of texts that begin so, and escapes no small letter
 abbrev pub IsTemplate : (title : List ℕ) → Template → Type 0

@@ -3,10 +3,14 @@ use Rattle.kdl_laws.proofs.Common.{◌≡◌, ℕ, Bool, true, false, sym, ap, �
 use Rattle.kdl_grammar.specs.Data as data'
 use Rattle.kdl_layout.specs.Blank.{at_start}
 use Rattle.kdl_layout.specs.Canonical.{canonical, Canonical}
-use Rattle.kdl_layout.specs.Config.{IndentsBySpaces, Keeping, nothing}
+use Rattle.kdl_layout.specs.Compact.{compact_nodes}
+use Rattle.kdl_layout.specs.Config.{IndentsBySpaces, IsPlain, Keeping, nothing}
 use Rattle.kdl_layout.specs.Respelled.{IsSpelledDocument, IsSpelledNode}
 use Rattle.kdl_layout.specs.Spaced.{IsSpacedDocument, IsSpacedNode}
 use Rattle.kdl_layout.specs.OneLine.{IsLaidNode}
+use Rattle.kdl_grammar.specs.Print.{print_document}
+use Rattle.kdl_grammar.specs.Tree.{document_data}
+use Rattle.kdl_layout.proofs.Formatting.PrintsCompact.{document_compact}
 use Rattle.kdl_layout.proofs.OneLine.Again as again
 use Rattle.kdl_layout.proofs.OneLine.Same.{document_off, node_off}
 use Rattle.kdl_layout.proofs.Respelling.Off as off
@@ -73,3 +77,8 @@ unspaced_document s level d x = (λ f. f, λ f. f)
 
 pub unspaced_node : (s : Settings) (level : ℕ) (n x : Node) → IsSpacedNode false 0 s level at_start n x ↔ IsFormattedNode s level n x
 unspaced_node s level n x = (λ f. f, λ f. f)
+
+-- what a compact layout prints
+pub compact_printed : (s : Settings) (level depth : ℕ) (d e : Document) → IsPlain s → DocumentKeepsNone d → IsLaidDocument nothing false true 0 s level d e → print_document e depth ≡ compact_nodes s.indent level (document_data d)
+compact_printed s level depth d e plain none f =
+    document_compact s level depth d e plain none ((respelled_document true 0 s level d e).0 ((lined_document nothing true 0 s level d e).0 f))

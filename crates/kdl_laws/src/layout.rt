@@ -1,15 +1,18 @@
-//! Layout has one result, changes nothing when it is repeated, and without comments gives the canonical text.
+//! Layout has one result, changes nothing when it is repeated, and without comments gives the canonical text or the
+//! compact one.
 
 ghost use Rattle.kdl.specs.Layout.{DocumentKeepsNoForm, DocumentLaidOut, DocumentSpaced};
 ghost use Rattle.kdl.specs.Tree.{document_prints, document_tree, node_tree};
 ghost use Rattle.kdl.specs.declared.document.KdlDocument.{KdlDocument};
 ghost use Rattle.kdl_layout.specs.Blank.{at_start};
 ghost use Rattle.kdl_layout.specs.Comments.{CommentsStay};
-ghost use Rattle.kdl_layout.specs.Config.{IndentsBySpaces, Keeping, Settings, defaults, keeping, nothing, settings};
+ghost use Rattle.kdl_layout.specs.Compact.{compact_nodes};
+ghost use Rattle.kdl_layout.specs.Config.{IndentsBySpaces, IsPlain, Keeping, Settings, defaults, keeping, nothing, settings};
 ghost use Rattle.kdl_layout.specs.Formatted.{DocumentKeepsNone, NodeKeepsNone};
 ghost use Rattle.kdl_layout.specs.Respelled.{IsSpelledDocument, IsSpelledNode};
 ghost use Rattle.kdl_layout.specs.OneLine.{IsLaidDocument, IsLaidNode};
 ghost use Rattle.kdl_layout.specs.Spaced.{IsSpacedDocument, IsSpacedNode};
+ghost use Rattle.kdl_layout.specs.declared.blank.Before.{Before};
 ghost use Rattle.kdl_layout.specs.declared.config.Layout.{Layout};
 ghost use Rattle.kdl_layout.specs.WithComments.{IsFormattedDocument, IsFormattedNode};
 ghost use Rattle.kdl_grammar.specs.Laid.{LaidDocument};
@@ -69,11 +72,26 @@ pub fn node_laid_out_twice(node: &mut KdlNode, config: &FormatConfig) -> Result<
     node.autoformat_config(config)
 }
 
-/// Layout has one result for a document.
-#[tactic(auto, using(kdl_layout::proofs::Formatting::FormattedUnique::formatted_det))]
+/// Layout has one result, for each layout.
+#[tactic(auto, using(kdl_layout::proofs::Formatting::SpacedUnique::spaced_det))]
 pub fn one_layout()
-    ensures { (s : Settings) (level : ℕ) (d x y : Document) → IsFormattedDocument s level d x
-        → IsFormattedDocument s level d y → x ≡ y }
+    ensures document { (keep : Keeping) (line compact : Bool) (number : ℕ) (s : Settings) (level : ℕ)
+        → (d x y : Document) → IsLaidDocument keep line compact number s level d x
+        → IsLaidDocument keep line compact number s level d y → x ≡ y }
+    ensures node { (keep : Keeping) (line compact : Bool) (number : ℕ) (s : Settings) (level : ℕ) (b : Before)
+        → (n x y : Node) → IsLaidNode keep line compact number s level b n x
+        → IsLaidNode keep line compact number s level b n y → x ≡ y }
+    ensures spaced { (compact : Bool) (number : ℕ) (s : Settings) (level : ℕ) (d x y : Document)
+        → IsSpacedDocument compact number s level d x
+        → IsSpacedDocument compact number s level d y → x ≡ y }
+{}
+
+/// A compact layout without comments, that keeps nothing else, prints the compact text of the data.
+#[tactic(auto, using(crate::proofs::TwoLayouts::compact_printed))]
+pub fn compact_layout()
+    ensures { (s : Settings) (level depth : ℕ) (d e : Document) → IsPlain s → DocumentKeepsNone d
+        → IsLaidDocument nothing false true 0 s level d e
+        → print_document e depth ≡ compact_nodes s.indent level (document_data d) }
 {}
 
 /// A second layout changes nothing: if the indent is of spaces and no entry is flagged, layout of its own result is

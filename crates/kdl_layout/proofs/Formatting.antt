@@ -1,9 +1,13 @@
 -- What layout makes: one thing, its text, and that it reads back.
 
--- What layout makes of a document is one thing.
+-- Without comments, what layout makes is what the function gives.
 pub mod FormattedUnique
+-- What layout makes of a document is one thing.
+pub mod SpacedUnique
 -- What layout makes prints the canonical text.
 pub mod PrintsCanonical
+-- What a compact layout makes prints the compact text.
+pub mod PrintsCompact
 -- The canonical text reads back as what it is made of.
 pub mod CanonicalReadsBack
 -- The parts of an entry that is laid out read back, and so does the entry where it did before.

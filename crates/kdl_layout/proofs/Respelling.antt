@@ -18,3 +18,5 @@ pub mod Again
 pub mod Examples
 -- A tree that is laid out with its spellings, as one tree of steps.
 pub mod Spelled
+-- What is kept inside nodes is one thing.
+pub mod Unique

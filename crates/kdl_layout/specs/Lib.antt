@@ -8,6 +8,8 @@ pub mod Written
 pub mod Blank
 -- The canonical text of the data of documents and nodes, whatever their form.
 pub mod Canonical
+-- The canonical text, but for blocks and documents without nodes.
+pub mod Compact
 -- The comments and slashdashed pieces in a document, in the order of printing.
 pub mod Comments
 -- The configuration of layout.

@@ -1,15 +1,13 @@
--- What layout makes of a document is one thing; where comments are left out it is what the function gives. Its entries say the same, and none is flagged.
-use Rattle.kdl_layout.proofs.Common.{◌≡◌, ℕ, ◌+◌, Bool, true, false, List, [], ◌∷◌, map, refl, sym, ap, ◌∙◌, Option, Some, ◌||◌, Text, Entry, EntryFormat, cleared, autoformatted, NodeFormat, DocumentFormat, Head, Node, node, Children, no_children, children, Document, document, Nodes, none, first, Item, GapItems, Place, before_entry, before_block, PlaceItems, tail, Settings, indentation, with_keep_if, formatted_entry, or_empty, or_empty_document, in_braces, formatted_head, formatted_node, formatted_children, formatted_nodes, formatted_document, EntriesKeepNone, WrittenUnless, KeptTail, KeptBeforeBlock, end_comment, end_space, last_place, KeptEnd, without_bom, entry_leading, is_kept_format, KeptBefore, plain_line, following, IsFormattedEntry, AreFormattedEntries, NodeTexts, line_of, content_of, has_block, SpacesTexts, IsSpacedLine, IsSpacedHead, SpacesContent, IsSpacedContent, IsSpacedBraced, IsSpacedNode, IsSpacedChildren, AreSpacedNodes, IsFormattedDocument, at_start, past_node, spaced_lines, Before}
-use Rattle.kdl_layout.proofs.Listing.ItemsUnique.{end_items_det, gap_items_det, items_in_det, place_items_det}
+-- Where comments are left out, what layout makes of a document is what the function gives. Its entries say the same, and none is flagged.
+use Rattle.kdl_layout.proofs.Common.{◌≡◌, ℕ, ◌+◌, Bool, true, false, List, [], ◌∷◌, map, refl, ap, ◌∙◌, Option, Some, ◌||◌, Text, Entry, EntryFormat, cleared, autoformatted, NodeFormat, DocumentFormat, Head, Node, node, Children, no_children, children, Document, document, Nodes, none, first, Item, GapItems, Place, before_entry, before_block, PlaceItems, tail, Settings, indentation, with_keep_if, formatted_entry, or_empty, or_empty_document, in_braces, formatted_head, formatted_node, formatted_children, formatted_nodes, formatted_document, EntriesKeepNone, WrittenUnless, KeptTail, KeptBeforeBlock, last_place, KeptEnd, without_bom, entry_leading, is_kept_format, KeptBefore, plain_line, following, IsFormattedEntry, AreFormattedEntries, NodeTexts, line_of, content_of, has_block, SpacesTexts, IsSpacedLine, IsSpacedHead, SpacesContent, IsSpacedContent, IsSpacedBraced, IsSpacedNode, IsSpacedChildren, AreSpacedNodes, IsFormattedDocument, at_start, past_node, spaced_lines, Before}
 use Rattle.kdl_layout.specs.Formatted.{content_format}
 use Rattle.kdl_layout.proofs.Formatting.PrintsCanonical.{cleared_formatted, not_kept_again}
 use Rattle.kdl_layout.proofs.Spacing.Lines.{no_lines_before}
-use Rattle.kdl_layout.proofs.Spacing.Reads.{any_before}
 
-abbrev Has : Type 1
+abbrev pub Has : Type 1
 Has = List Item → Type 0
 
-abbrev Writes : Type 0
+abbrev pub Writes : Type 0
 Writes = List Item → Text
 
 -- heads with the same parts are the same
@@ -58,8 +56,12 @@ line_plain s level has b f k e w =
       lines_none s level (past_node f.terminator) f.trailing k.following e w.following.0,
     ) refl
 
+-- around the nodes nothing is kept
+pub content_none : (s : Settings) (level : ℕ) (ns : Nodes) (f : DocumentFormat) (b : Before) (x y : Text) → s.no_comments ≡ true → SpacesContent 0 s level ns f b x y → (x ≡ []) × (y ≡ [])
+content_none s level ns f b x y e w = (lines_none s level at_start (without_bom f.leading) x e w.leading.0, lines_none s level w.last f.trailing y e w.trailing.0)
+
 content_plain : (s : Settings) (level : ℕ) (ns : Nodes) (f : DocumentFormat) (b : Before) (x y : Text) → s.no_comments ≡ true → SpacesContent 0 s level ns f b x y → content_of false ns x y ≡ content_format ns
-content_plain s level ns f b x y e w = rw (lines_none s level at_start (without_bom f.leading) x e w.leading.0, lines_none s level w.last f.trailing y e w.trailing.0) refl
+content_plain s level ns f b x y e w = let (before, after) = content_none s level ns f b x y e w in rw (before, after) refl
 
 -- then what layout makes is what the function gives
 pub entry_left : (s : Settings) (e e' : Entry) → s.no_comments ≡ true → IsFormattedEntry s e e' → e' ≡ formatted_entry s e
@@ -75,7 +77,7 @@ entries_left_out s _ _ h f = absurd assumption
 line_left : (s : Settings) (level : ℕ) (has : Bool) (b : Before) (f : NodeFormat) (g : Option NodeFormat) → s.no_comments ≡ true → IsSpacedLine 0 s level has b f g → g ≡ Some (plain_line (indentation s level))
 line_left s level has b f g h l = l.2 ∙ ap Some (line_plain s level has b f l.0 h l.1)
 
-head_left : (s : Settings) (level : ℕ) (has : Bool) (b : Before) (h h' : Head) → s.no_comments ≡ true → IsSpacedHead 0 s level has b h h' → h' ≡ formatted_head s level h
+pub head_left : (s : Settings) (level : ℕ) (has : Bool) (b : Before) (h h' : Head) → s.no_comments ≡ true → IsSpacedHead 0 s level has b h h' → h' ≡ formatted_head s level h
 head_left s level has b h h' e f = head_same f.ty f.name (entries_left_out s h.entries h'.entries e f.entries) (line_left s level has b (or_empty h.format) h'.format e f.format) f.span
 
 content_left : (s : Settings) (level : ℕ) (ns : Nodes) (f : DocumentFormat) (b : Before) (g : Option DocumentFormat) → s.no_comments ≡ true → IsSpacedContent false 0 s level ns f b g → g ≡ Some (content_format ns)
@@ -129,97 +131,3 @@ pub entries_keep_none : (s : Settings) (es es' : List Entry) → AreFormattedEnt
 entries_keep_none s [] [] f = tt
 entries_keep_none s (e ∷ es) (e' ∷ es') f = (entry_keeps_none s e e' f.0, entries_keep_none s es es' f.1)
 entries_keep_none s _ _ f = absurd assumption
-
--- what is kept of a place is one text
-unless_det : (has : Has) (write : Writes) (t u : Text) (b : Bool) → ((is js : List Item) → has is → has js → is ≡ js) → WrittenUnless b has write t → WrittenUnless b has write u → t ≡ u
-unless_det has write t u true det a b = a ∙ sym b
-unless_det has write t u false det (is, i, e) (js, j, f) = e ∙ ap write (items_in_det det i j) ∙ sym f
-
-lines_det : (s : Settings) (level : ℕ) (b c : Before) (place t u : Text) → Lines s level b place t → Lines s level c place u → t ≡ u
-lines_det s level b c place t u v w =
-    unless_det (GapItems place) (spaced_lines 0 (indentation s level) b place) t u s.no_comments (λ is js x y. gap_items_det x y) v (any_before s level c b place u w)
-
-pub tail_det : (s : Settings) (p : Place) (place t u : Text) → KeptTail s p place t → KeptTail s p place u → t ≡ u
-tail_det s p place t u a b = unless_det (PlaceItems p place) tail t u s.no_comments (λ is js x y. place_items_det x y) a b
-
-pub before_det : (s : Settings) (f : Option EntryFormat) (t u : Text) → KeptBefore s f t → KeptBefore s f u → t ≡ u
-before_det s f t u a b = unless_det (PlaceItems (before_entry false) (entry_leading f)) tail t u (is_kept_format f || s.no_comments) (λ is js x y. place_items_det x y) a b
-
-pub block_det : (s : Settings) (has : Bool) (place t u : Text) → KeptBeforeBlock s has place t → KeptBeforeBlock s has place u → t ≡ u
-block_det s false place t u a b = a ∙ sym b
-block_det s true place t u a b = tail_det s before_block place t u a b
-
-pub end_det : (b : Bool) (terminator t u t' u' : Text) → KeptEnd b terminator t u → KeptEnd b terminator t' u' → (t ≡ t') × (u ≡ u')
-end_det true terminator t u t' u' a b = (a.0 ∙ sym b.0, a.1 ∙ sym b.1)
-end_det false terminator t u t' u' (is, i, e, f) (js, j, g, h) = let d = end_items_det i j in (e ∙ ap end_space d ∙ sym g, f ∙ ap end_comment d ∙ sym h)
-
-texts_det : (s : Settings) (level : ℕ) (has : Bool) (b c : Before) (f : NodeFormat) (k k' : NodeTexts) → SpacesTexts 0 s level has b f k → SpacesTexts 0 s level has c f k' → k ≡ k'
-texts_det s level has b c f k k' v w =
-    let end = end_det s.no_comments f.terminator k.space k.comment k'.space k'.comment v.end w.end in
-    let before = no_lines_before v.at_node k.before v.lines v.before ∙ lines_det s level b c f.leading v.lines w.lines v.leading.0 w.leading.0 ∙ sym (no_lines_before w.at_node k'.before w.lines w.before) in
-    let block = block_det s has f.before_children k.before_block k'.before_block v.before_block w.before_block in
-    let last = tail_det s (last_place has) f.before_terminator k.last k'.last v.last w.last in
-    let more = lines_det s level (past_node f.terminator) (past_node f.terminator) f.trailing k.following k'.following v.following.0 w.following.0 in
-    λ i. record { before = before i; before_block = block i; last = last i; space = end.0 i; comment = end.1 i; following = more i }
-
--- so what layout makes is one thing
-pub entry_det : (s : Settings) (e x y : Entry) → IsFormattedEntry s e x → IsFormattedEntry s e y → x ≡ y
-entry_det s e x y a b =
-    let m = with_keep_if s.entry_autoformate_keep e in
-    a.2 ∙ ap (λ (t : Text). following t (autoformatted m)) (before_det s m.format a.0 b.0 a.1 b.1) ∙ sym b.2
-
-pub formatted_entries_det : (s : Settings) (es xs ys : List Entry) → AreFormattedEntries s es xs → AreFormattedEntries s es ys → xs ≡ ys
-formatted_entries_det s [] [] [] a b = refl
-formatted_entries_det s (e ∷ es) (x ∷ xs) (y ∷ ys) a b = let c = entry_det s e x y a.0 b.0 in let d = formatted_entries_det s es xs ys a.1 b.1 in cc
-formatted_entries_det s _ _ _ a b = absurd assumption
-
-line_det : (s : Settings) (level : ℕ) (has : Bool) (b c : Before) (f : NodeFormat) (g g' : Option NodeFormat) → IsSpacedLine 0 s level has b f g → IsSpacedLine 0 s level has c f g' → g ≡ g'
-line_det s level has b c f g g' v w = v.2 ∙ ap (λ (k : NodeTexts). Some (line_of (indentation s level) k)) (texts_det s level has b c f v.0 w.0 v.1 w.1) ∙ sym w.2
-
-content_texts_det : (s : Settings) (level : ℕ) (ns : Nodes) (f : DocumentFormat) (b c : Before) (t u t' u' : Text) → SpacesContent 0 s level ns f b t u → SpacesContent 0 s level ns f c t' u' → content_of false ns t u ≡ content_of false ns t' u'
-content_texts_det s level ns f b c t u t' u' v w =
-    let before = lines_det s level at_start at_start (without_bom f.leading) t t' v.leading.0 w.leading.0 in
-    let more = lines_det s level v.last w.last f.trailing u u' v.trailing.0 w.trailing.0 in
-    λ i. content_of false ns (before i) (more i)
-
-content_det : (s : Settings) (level : ℕ) (ns : Nodes) (f : DocumentFormat) (b c : Before) (g g' : Option DocumentFormat) → IsSpacedContent false 0 s level ns f b g → IsSpacedContent false 0 s level ns f c g' → g ≡ g'
-content_det s level ns f b c g g' v w = v.3 ∙ ap Some (content_texts_det s level ns f b c v.0 v.1 w.0 w.1 v.2 w.2) ∙ sym w.3
-
-braces_det : (s : Settings) (level : ℕ) (ns : Nodes) (f : DocumentFormat) (b c : Before) (g g' : Option DocumentFormat) → IsSpacedBraced false 0 s level ns f b g → IsSpacedBraced false 0 s level ns f c g' → g ≡ g'
-braces_det s level ns f b c g g' v w =
-    v.3 ∙ ap (λ (x : DocumentFormat). Some (in_braces (indentation s level) x)) (content_texts_det s (level + 1) ns f b c v.0 v.1 w.0 w.1 v.2 w.2) ∙ sym w.3
-
-head_det : (s : Settings) (level : ℕ) (has : Bool) (b c : Before) (h x y : Head) → IsSpacedHead 0 s level has b h x → IsSpacedHead 0 s level has c h y → x ≡ y
-head_det s level has b c h x y v w =
-    head_same (v.ty ∙ sym w.ty) (v.name ∙ sym w.name) (formatted_entries_det s h.entries x.entries y.entries v.entries w.entries) (line_det s level has b c (or_empty h.format) x.format y.format v.format w.format) (v.span ∙ sym w.span)
-
-mutual
-  formatted_node_det : (s : Settings) (level : ℕ) (b c : Before) (n x y : Node) → IsSpacedNode false 0 s level b n x → IsSpacedNode false 0 s level c n y → x ≡ y
-  formatted_node_det s level b c (node h k) (node h1 k1) (node h2 k2) v w =
-      let own = head_det s level (has_block k) b c h h1 h2 v.0 w.0 in
-      let below = formatted_children_det s level k k1 k2 v.1 w.1 in
-      cc
-
-  formatted_children_det : (s : Settings) (level : ℕ) (k x y : Children) → IsSpacedChildren false 0 s level k x → IsSpacedChildren false 0 s level k y → x ≡ y
-  formatted_children_det s level no_children no_children no_children a b = refl
-  formatted_children_det s level (children (document f span ns)) (children (document f1 span1 ns1)) (children (document f2 span2 ns2)) a b =
-      let braces = braces_det s level ns (or_empty_document f) a.0 b.0 f1 f2 a.1 b.1 in
-      let at = a.2 ∙ sym b.2 in
-      let below = formatted_nodes_det s (level + 1) a.0 b.0 ns ns1 ns2 a.3 b.3 in
-      λ i. children (document (braces i) (at i) (below i))
-  formatted_children_det s level _ _ _ a b = absurd assumption
-
-  formatted_nodes_det : (s : Settings) (level : ℕ) (b c : Before) (ns x y : Nodes) → AreSpacedNodes false 0 s level b ns x → AreSpacedNodes false 0 s level c ns y → x ≡ y
-  formatted_nodes_det s level b c none none none v w = refl
-  formatted_nodes_det s level b c (first n ns) (first n1 ns1) (first n2 ns2) v w =
-      let here = formatted_node_det s level b c n n1 n2 v.1 w.1 in
-      let others = formatted_nodes_det s level v.0 w.0 ns ns1 ns2 v.3 w.3 in
-      cc
-  formatted_nodes_det s level b c _ _ _ v w = absurd assumption
-
-pub formatted_det : (s : Settings) (level : ℕ) (d x y : Document) → IsFormattedDocument s level d x → IsFormattedDocument s level d y → x ≡ y
-formatted_det s level (document f span ns) (document f1 span1 ns1) (document f2 span2 ns2) a b =
-    let content = content_det s level ns (or_empty_document f) a.0 b.0 f1 f2 a.1 b.1 in
-    let at = a.2 ∙ sym b.2 in
-    let nodes = formatted_nodes_det s level a.0 b.0 ns ns1 ns2 a.3 b.3 in
-    λ i. document (content i) (at i) (nodes i)

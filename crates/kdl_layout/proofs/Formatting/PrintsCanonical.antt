@@ -78,16 +78,22 @@ newline_same (first n ns) = refl
 head_joined : (i t n e k : Text) → i ++ t ++ [] ++ n ++ e ++ (k ++ (10 ∷ [])) ≡ i ++ t ++ n ++ e ++ k ++ (10 ∷ [])
 head_joined i t n e k = simp (append_assoc, append-nil)
 
-block_joined : (ns l i : Text) → (32 ∷ []) ++ (123 ∷ []) ++ ((10 ∷ []) ++ ns ++ (l ++ i)) ++ [] ++ (125 ∷ [] ++ (10 ∷ []) ++ []) ≡ (32 ∷ 123 ∷ 10 ∷ []) ++ (ns ++ l) ++ i ++ (125 ∷ []) ++ (10 ∷ [])
+pub block_joined : (ns l i : Text) → (32 ∷ []) ++ (123 ∷ []) ++ ((10 ∷ []) ++ ns ++ (l ++ i)) ++ [] ++ (125 ∷ [] ++ (10 ∷ []) ++ []) ≡ (32 ∷ 123 ∷ 10 ∷ []) ++ (ns ++ l) ++ i ++ (125 ∷ []) ++ (10 ∷ [])
 block_joined ns l i =
     ap (λ (t : Text). 32 ∷ 123 ∷ 10 ∷ t)
     (ap (λ (t : Text). t ++ (125 ∷ 10 ∷ [])) (append-nil (ns ++ (l ++ i)) ∙ sym (append_assoc ns l i)) ∙ sym (append_assoc (ns ++ l ++ i) (125 ∷ []) (10 ∷ [])))
 
+-- a node's line, before what its block prints
+pub head_canonical : (s : Settings) (level depth : ℕ) (h : Head) (k' : Children) (t : Text) → IsPlain s → EntriesKeepNone h.entries → print_tail (formatted_head s level h) k' depth ≡ t ++ (10 ∷ [])
+    → print_node (node (formatted_head s level h) k') depth ≡ indentation s level ++ canonical_type (name_of h.ty) ++ spelled h.name.value ++ canonical_entries (map entry_data h.entries) ++ t ++ (10 ∷ [])
+head_canonical s level depth h k' t p m e =
+    rw (type_canonical h.ty, entries_canonical s h.entries p m, e)
+    (head_joined (indentation s level) (canonical_type (name_of h.ty)) (spelled h.name.value) (canonical_entries (map entry_data h.entries)) t)
+
 mutual
   pub node_canonical : (s : Settings) (level depth : ℕ) (n : Node) → IsPlain s → NodeKeepsNone n → print_node (formatted_node s level n) depth ≡ canonical_node s.indent level (node_data n)
   node_canonical s level depth (node h k) p m =
-      rw (type_canonical h.ty, entries_canonical s h.entries p m.0, tail_canonical s level depth h k p m.1)
-      (head_joined (indentation s level) (canonical_type (name_of h.ty)) (spelled h.name.value) (canonical_entries (map entry_data h.entries)) (canonical_children s.indent level (children_data k)))
+      head_canonical s level depth h (formatted_children s level k) (canonical_children s.indent level (children_data k)) p m.0 (tail_canonical s level depth h k p m.1)
 
   tail_canonical : (s : Settings) (level depth : ℕ) (h : Head) (k : Children) → IsPlain s → ChildrenKeepNone k
       → print_tail (formatted_head s level h) (formatted_children s level k) depth ≡ canonical_children s.indent level (children_data k) ++ (10 ∷ [])

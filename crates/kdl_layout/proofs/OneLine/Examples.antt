@@ -1,6 +1,9 @@
 -- Values that are not on one line, and others that are; the texts around the nodes of a block, and of a document.
 use Rattle.kdl_layout.proofs.Common.{◌≡◌, true, false, [], ◌∷◌, refl, Some, None, empty_format, Head, node, no_children, children, document, Node, Nodes, none, first, Text, block_of, content_of, end_on_line, form_on_line, is_on_one_line, no_newline, only_spaces, is_newline_char, is_space}
 use Rattle.kdl_entry.specs.Tree.{no_span}
+use Rattle.kdl_grammar.specs.Data as data'
+use Rattle.kdl_layout.specs.Canonical.{canonical_children}
+use Rattle.kdl_layout.specs.Compact.{compact_children}
 use Rattle.kdl_layout.specs.OneLine.{node_on_line}
 
 -- `a`
@@ -76,3 +79,10 @@ empty_document = refl
 
 comments_alone : content_of true none (47 ∷ 47 ∷ 10 ∷ []) [] ≡ record { leading = 47 ∷ 47 ∷ 10 ∷ []; trailing = [] }
 comments_alone = refl
+
+-- what is between the braces of a block without nodes: nothing, where the canonical text has an empty line
+compact_block : compact_children [] 0 (data'.children data'.none) ≡ 32 ∷ 123 ∷ 125 ∷ []
+compact_block = refl
+
+no_empty_line : canonical_children [] 0 (data'.children data'.none) ≡ compact_children [] 0 (data'.children data'.none) → ⊥
+no_empty_line e = cc

@@ -3,7 +3,8 @@ use Rattle.kdl_layout.proofs.Common.{◌≡◌, ℕ, Bool, true, false, List, []
 use Rattle.kdl_entry.specs.Tree.{unspelled_names}
 use Rattle.kdl_layout.proofs.Texts.{no_format}
 use Rattle.kdl_layout.proofs.Rewriting.PlacesAgain.{tail_spaced}
-use Rattle.kdl_layout.proofs.Formatting.FormattedUnique.{entry_keeps_none, tail_det, cleared_after}
+use Rattle.kdl_layout.proofs.Formatting.FormattedUnique.{entry_keeps_none, cleared_after}
+use Rattle.kdl_layout.proofs.Formatting.SpacedUnique.{tail_det}
 use Rattle.kdl_layout.proofs.Keeping.KeptReads.{kept_bare, kept_empty, spaces_in, none_before, before_entry_stays}
 use Rattle.kdl_layout.proofs.Respelling.Leaves.{cleared_same, entry_flag, unspelled_same, unspelled_same_if}
 use Rattle.kdl_layout.proofs.Respelling.Kept.{OnlySpaces, leading_again_if, no_texts, place_again_if, place_bare_if, types_again_if, types_bare_if}
