@@ -98,7 +98,7 @@ pub use Rattle.kdl.specs.LaysOut.{FormatsDocument, FormatsNode, KeepsComments, K
 -- The canonical text of a document's data.
 pub use Rattle.kdl_layout.specs.Canonical.{Canonical, CanonicalNode, canonical, canonical_node, canonical_text}
 -- The same, but for blocks and documents without nodes.
-pub use Rattle.kdl_layout.specs.Compact.{compact_nodes, compact_text}
+pub use Rattle.kdl_layout.specs.Compact.{compact_nodes}
 -- What look-ups find after an edit.
 pub use Rattle.kdl_parts.specs.EntryLists.{key_index, key_name}
 pub use Rattle.kdl.specs.Found.{IsAdded, IsArgumentSet, IsPutIn, IsSet, IsSetIn, IsTakenOut, IsTakenOutAt, argument_count, property_count, value_at, value_named}

@@ -5,7 +5,6 @@ use Rattle.kdl_text.specs.Chars.{Text}
 use Rattle.kdl_value.specs.Spelled.{spelled}
 use Rattle.kdl_grammar.specs.Data.{Node, node, Children, no_children, children, Nodes, none, first}
 use Rattle.kdl_layout.specs.Canonical.{canonical_entries, canonical_type}
-use Rattle.kdl_layout.specs.Config.{without_comments}
 
 -- the indent once for each level, `(type)`, the name, the entries, the children between braces, a newline; a block without
 -- nodes is `{}`
@@ -21,7 +20,3 @@ abbrev mutual
   pub compact_nodes : Text → ℕ → Nodes → Text
   compact_nodes indent level none = []
   compact_nodes indent level (first n ns) = compact_node indent level n ++ compact_nodes indent level ns
-
--- the compact text of a document, from level 0 on, with four spaces for each level; without nodes it is empty
-abbrev pub compact_text : Nodes → Text
-compact_text ns = compact_nodes without_comments.indent 0 ns
